@@ -1,0 +1,9 @@
+pub mod Logic
+pub mod All
+pub mod Any
+pub mod First
+pub mod Sums
+pub mod Tables
+pub mod Parts
+pub mod Pages
+pub mod Numbers
