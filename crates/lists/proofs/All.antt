@@ -64,24 +64,24 @@ all-same n f g h =
 pub or-zero : (a b : ℕ) → eqb (bitOr a b) 0 ≡ eqb a 0 && eqb b 0
 or-zero a b = go (eqb a 0) (eqb b 0) refl refl
   where
-  go : (x y : Bool) → eqb a 0 ≡ x → eqb b 0 ≡ y → eqb (bitOr a b) 0 ≡ x && y
-  go true true p q =
-      let p′ = eqb-true a 0 p in
-      let q′ = eqb-true b 0 q in
-      eq-eqb (bitOr a b) 0 (omega (arith, or-add-and a b, and-le-l a b, and-le-r a b))
-  go true false p q =
-      let q′ = eqb-false b 0 q in
-      ne-eqb (bitOr a b) 0 (λ e. q′ (omega (arith, or-add-and a b, and-le-l a b, and-le-r a b)))
-  go false y p q =
-      let p′ = eqb-false a 0 p in
-      ne-eqb (bitOr a b) 0 (λ e. p′ (omega (arith, or-add-and a b, and-le-l a b, and-le-r a b)))
+    go : (x y : Bool) → eqb a 0 ≡ x → eqb b 0 ≡ y → eqb (bitOr a b) 0 ≡ x && y
+    go true true p q =
+        let p′ = eqb-true a 0 p in
+        let q′ = eqb-true b 0 q in
+        eq-eqb (bitOr a b) 0 (omega (arith, or-add-and a b, and-le-l a b, and-le-r a b))
+    go true false p q =
+        let q′ = eqb-false b 0 q in
+        ne-eqb (bitOr a b) 0 (λ e. q′ (omega (arith, or-add-and a b, and-le-l a b, and-le-r a b)))
+    go false y p q =
+        let p′ = eqb-false a 0 p in
+        ne-eqb (bitOr a b) 0 (λ e. p′ (omega (arith, or-add-and a b, and-le-l a b, and-le-r a b)))
 
 -- a bitwise exclusive or is zero where the two numbers are the same
 pub xor-zero : (a b : ℕ) → eqb (bitXor a b) 0 ≡ eqb a b
 xor-zero a b =
     iff _ _
     (λ p. let p′ = eqb-true (bitXor a b) 0 p in
-      eq-eqb a b (omega (arith, xor-add-and a b, and-le-l a b, and-le-r a b)))
+    eq-eqb a b (omega (arith, xor-add-and a b, and-le-l a b, and-le-r a b)))
     (λ p. let e = eqb-true a b p in eq-eqb (bitXor a b) 0 (rw e (xor-self b)))
 
 -- a loop that gathers what is not zero by a bitwise or: before it, and a turn

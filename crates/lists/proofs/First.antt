@@ -63,9 +63,9 @@ module _ (f : ℕ → Bool) where
       decided (ltb (first-below f n) n)
       (λ e. first-before n i (rw e at h))
       (λ e. decided (f n)
-        (λ t. first-before n i (omega (arith, rw (e, t) at h, ltb-false (first-below f n) n e)))
-        (λ t. let l : i < suc n = rw (e, t) at h in
-          ⊎-elim
-          (λ (m : i < n). first-before n i (omega (arith, ltb-false (first-below f n) n e)))
-          (λ (m : n ≤ i). let q : n ≡ i = omega arith in subst (λ (k : ℕ). f k ≡ false) q t)
-          (lt-or-ge i n)))
+      (λ t. first-before n i (omega (arith, rw (e, t) at h, ltb-false (first-below f n) n e)))
+      (λ t. let l : i < suc n = rw (e, t) at h in
+      ⊎-elim
+      (λ (m : i < n). first-before n i (omega (arith, ltb-false (first-below f n) n e)))
+      (λ (m : n ≤ i). let q : n ≡ i = omega arith in subst (λ (k : ℕ). f k ≡ false) q t)
+      (lt-or-ge i n)))

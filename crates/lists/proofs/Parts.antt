@@ -33,9 +33,9 @@ pub zeros-at : (n i : ℕ) → getD (zeros n) i 0 ≡ 0
 unfolding zeros
 zeros-at n i = go (decLt i n)
   where
-  go : Dec (i < n) → _≡_ {A = ℕ} (getD (replicate n 0) i 0) 0
-  go (yes l) = getD-replicate n i 0 0 l
-  go (no l) = List·getD-eq-default (replicate n 0) 0 (omega (arith, length-replicate {A = ℕ} n 0))
+    go : Dec (i < n) → _≡_ {A = ℕ} (getD (replicate n 0) i 0) 0
+    go (yes l) = getD-replicate n i 0 0 l
+    go (no l) = List·getD-eq-default (replicate n 0) 0 (omega (arith, length-replicate {A = ℕ} n 0))
 
 -- ---- parts
 
@@ -84,10 +84,10 @@ pub part-same : (m m′ : List ℕ) (a n : ℕ) → length m ≡ length m′ →
     → part m a n ≡ part m′ a n
 part-same m m′ a n e h = ext-getD 0 (part m a n) (part m′ a n) (part-alike m m′ a n e) each
   where
-  each : (i : ℕ) → i < length (part m a n) → getD (part m a n) i 0 ≡ getD (part m′ a n) i 0
-  each i k =
-      let b : i < n = omega (arith, part-few m a n) in
-      rw (part-at m a n i b, part-at m′ a n i b) (h (a + i) (omega arith) (omega arith))
+    each : (i : ℕ) → i < length (part m a n) → getD (part m a n) i 0 ≡ getD (part m′ a n) i 0
+    each i k =
+        let b : i < n = omega (arith, part-few m a n) in
+        rw (part-at m a n i b, part-at m′ a n i b) (h (a + i) (omega arith) (omega arith))
 
 -- ---- bytes put into a list
 
@@ -150,15 +150,16 @@ sets-all m bs e = let h = part-sets m 0 bs (omega arith) in
 set-keep : (l l′ : List ℕ) (j v i : ℕ) → length l ≡ length l′ → getD l i 0 ≡ getD l′ i 0 → getD (set l j v) i 0 ≡ getD (set l′ j v) i 0
 set-keep l l′ j v i e h = go (ℕ-discrete i j)
   where
-  same : i ≡ j → Dec (j < length l) → getD (set l j v) i 0 ≡ getD (set l′ j v) i 0
-  same q (yes p) = rw q (getD-set-same l j v 0 p ∙ sym (getD-set-same l′ j v 0 (omega arith)))
-  same q (no p) =
-      let a : length l ≤ j = omega arith in
-      let b : length l′ ≤ j = omega arith in
-      rw (set-out l j v a, set-out l′ j v b) h
-  go : Dec (i ≡ j) → getD (set l j v) i 0 ≡ getD (set l′ j v) i 0
-  go (yes q) = same q (decLt j (length l))
-  go (no q) = getD-set-other l j i v 0 q ∙ h ∙ sym (getD-set-other l′ j i v 0 q)
+    same : i ≡ j → Dec (j < length l) → getD (set l j v) i 0 ≡ getD (set l′ j v) i 0
+    same q (yes p) = rw q (getD-set-same l j v 0 p ∙ sym (getD-set-same l′ j v 0 (omega arith)))
+    same q (no p) =
+        let a : length l ≤ j = omega arith in
+        let b : length l′ ≤ j = omega arith in
+        rw (set-out l j v a, set-out l′ j v b) h
+
+    go : Dec (i ≡ j) → getD (set l j v) i 0 ≡ getD (set l′ j v) i 0
+    go (yes q) = same q (decLt j (length l))
+    go (no q) = getD-set-other l j i v 0 q ∙ h ∙ sym (getD-set-other l′ j i v 0 q)
 
 -- the same bytes put into both keep agreement at a place, wherever they fall
 pub sets-keep : (vs l l′ : List ℕ) (a i : ℕ) → length l ≡ length l′ → getD l i 0 ≡ getD l′ i 0 → getD (sets l a vs) i 0 ≡ getD (sets l′ a vs) i 0
@@ -172,24 +173,25 @@ sets-join [] l l′ a i e h k = absurd (omega arith)
 sets-join (v ∷ vs) l l′ a i e h k =
     go (ℕ-discrete i a) (λ (q : i ≢ a). sets-join vs (set l a v) (set l′ a v) (suc a) i (length-set l a v ∙ e ∙ sym (length-set l′ a v)) (omega arith) (omega arith))
   where
-  one : i ≡ a → Dec (a < length l) → getD (set l a v) i 0 ≡ getD (set l′ a v) i 0
-  one q (yes p) = rw q (getD-set-same l a v 0 p ∙ sym (getD-set-same l′ a v 0 (omega arith)))
-  one q (no p) =
-      List·getD-eq-default (set l a v) 0 (omega (arith, length-set l a v))
-      ∙ sym (List·getD-eq-default (set l′ a v) 0 (omega (arith, length-set l′ a v)))
-  go : Dec (i ≡ a) → (i ≢ a → getD (sets (set l a v) (suc a) vs) i 0 ≡ getD (sets (set l′ a v) (suc a) vs) i 0) → getD (sets (set l a v) (suc a) vs) i 0 ≡ getD (sets (set l′ a v) (suc a) vs) i 0
-  go (yes q) r = sets-before vs (set l a v) (suc a) i (omega arith) ∙ one q (decLt a (length l)) ∙ sym (sets-before vs (set l′ a v) (suc a) i (omega arith))
-  go (no q) r = r q
+    one : i ≡ a → Dec (a < length l) → getD (set l a v) i 0 ≡ getD (set l′ a v) i 0
+    one q (yes p) = rw q (getD-set-same l a v 0 p ∙ sym (getD-set-same l′ a v 0 (omega arith)))
+    one q (no p) =
+        List·getD-eq-default (set l a v) 0 (omega (arith, length-set l a v))
+        ∙ sym (List·getD-eq-default (set l′ a v) 0 (omega (arith, length-set l′ a v)))
+
+    go : Dec (i ≡ a) → (i ≢ a → getD (sets (set l a v) (suc a) vs) i 0 ≡ getD (sets (set l′ a v) (suc a) vs) i 0) → getD (sets (set l a v) (suc a) vs) i 0 ≡ getD (sets (set l′ a v) (suc a) vs) i 0
+    go (yes q) r = sets-before vs (set l a v) (suc a) i (omega arith) ∙ one q (decLt a (length l)) ∙ sym (sets-before vs (set l′ a v) (suc a) i (omega arith))
+    go (no q) r = r q
 
 -- different bytes of one length keep agreement at a place that they do not reach
 pub sets-aside : (vs vs′ l l′ : List ℕ) (a i : ℕ) → length vs ≡ length vs′ → getD l i 0 ≡ getD l′ i 0 → (a ≤ i → i < a + length vs → ⊥)
     → getD (sets l a vs) i 0 ≡ getD (sets l′ a vs′) i 0
 sets-aside vs vs′ l l′ a i e h n = go (decLt i a) (decLt i (a + length vs))
   where
-  go : Dec (i < a) → Dec (i < a + length vs) → getD (sets l a vs) i 0 ≡ getD (sets l′ a vs′) i 0
-  go (yes p) q = sets-before vs l a i p ∙ h ∙ sym (sets-before vs′ l′ a i p)
-  go (no p) (yes q) = absurd (n (omega arith) q)
-  go (no p) (no q) = sets-after vs l a i (omega arith) ∙ h ∙ sym (sets-after vs′ l′ a i (omega arith))
+    go : Dec (i < a) → Dec (i < a + length vs) → getD (sets l a vs) i 0 ≡ getD (sets l′ a vs′) i 0
+    go (yes p) q = sets-before vs l a i p ∙ h ∙ sym (sets-before vs′ l′ a i p)
+    go (no p) (yes q) = absurd (n (omega arith) q)
+    go (no p) (no q) = sets-after vs l a i (omega arith) ∙ h ∙ sym (sets-after vs′ l′ a i (omega arith))
 
 -- ---- the turns of loops that copy
 
@@ -213,5 +215,5 @@ pub move-turn : {d : List ℕ} (m : List ℕ) (from to n i : ℕ) → d ≡ sets
 move-turn {d} m from to n i e a b h =
     let l : length (part m from i) ≡ i = part-long m from i (omega arith) in
     let same : getD d (from + i) 0 ≡ getD m (from + i) 0 =
-      rw e (⊎-elim (λ p. sets-before (part m from i) m to (from + i) (omega arith)) (λ p. sets-after (part m from i) m to (from + i) (omega arith)) a) in
+    rw e (⊎-elim (λ p. sets-before (part m from i) m to (from + i) (omega arith)) (λ p. sets-after (part m from i) m to (from + i) (omega arith)) a) in
     rw (same, part-more m from i h) (sets-turn m to i (part m from i) (getD m (from + i) 0) e l)
