@@ -1,0 +1,94 @@
+// What is done to lent bytes: pages zeroed, bytes moved, put and given, and the part of one of two lent slices.
+use geometry::Geometry;
+ghost use mathlib.Core.Path.{_≡_};
+ghost use mathlib.Core.List.{List, [], _∷_};
+ghost use Prim.Native.Nat.{ℕ, _+_, _*_, _≤_, _<_};
+ghost use lib.ListN.{length};
+ghost use lib.Seq.{sets};
+ghost use Rattle.lists.specs.Bytes.{part, zeros, Apart, counted, wipe};
+ghost use Rattle.geometry.specs.Geometry.{pageSize, startOf};
+ghost use Rattle.memory.specs.Source.{chosenOf, InRange};
+
+// n bytes from `at` on become zero.
+fn zero_bytes(memory: &mut [u8], at: usize, n: usize)
+    requires { ⌜ at + n ≤ length (now memory) ⌝ }
+    ensures { λ _. ⌜ now (memory .exit) ≡ sets (now (memory .entry)) at (zeros n) ⌝ }
+{
+    let mut i = 0;
+    while i < n {
+        memory[at + i] = 0;
+        i += 1;
+    }
+}
+
+// Every byte of `count` pages, from page `first` on, becomes zero.
+pub fn zero_run(memory: &mut [u8], first: usize, count: usize)
+    requires { ⌜ startOf (first + count) ≤ length (now memory) ⌝ }
+    ensures { λ _. ⌜ now (memory .exit) ≡ wipe pageSize (now (memory .entry)) (counted first count) ⌝ }
+{
+    zero_bytes(memory, first * Geometry::PAGE, count * Geometry::PAGE);
+}
+
+// Every byte of one page becomes zero.
+pub fn zero_page(memory: &mut [u8], page: usize)
+    requires { ⌜ startOf (page + 1) ≤ length (now memory) ⌝ }
+    ensures { λ _. ⌜ now (memory .exit) ≡ wipe pageSize (now (memory .entry)) (page ∷ []) ⌝ }
+{
+    zero_bytes(memory, page * Geometry::PAGE, Geometry::PAGE);
+}
+
+// n bytes go from one place of memory to another that has none of them in common with it.
+pub fn move_bytes(memory: &mut [u8], from: usize, to: usize, n: usize)
+    requires { ⌜ (from + n ≤ length (now memory)) × (to + n ≤ length (now memory)) ⌝ }
+    requires { ⌜ Apart from to n ⌝ }
+    ensures { λ _. ⌜ now (memory .exit) ≡ sets (now (memory .entry)) to (part (now (memory .entry)) from n) ⌝ }
+{
+    let mut i = 0;
+    while i < n {
+        memory[to + i] = memory[from + i];
+        i += 1;
+    }
+}
+
+// All bytes of a payload go to a place of memory.
+pub fn put_bytes(memory: &mut [u8], at: usize, payload: &[u8])
+    requires { ⌜ at + length (now payload) ≤ length (now memory) ⌝ }
+    ensures { λ _. ⌜ now (memory .exit) ≡ sets (now (memory .entry)) at (now (payload .entry)) ⌝ }
+{
+    let mut i = 0;
+    while i < payload.len() {
+        memory[at + i] = payload[i];
+        i += 1;
+    }
+}
+
+// n bytes of memory go to the front of the answer buffer; the rest of it stays.
+pub fn give_bytes(memory: &[u8], at: usize, n: usize, buffer: &mut [u8])
+    requires { ⌜ (at + n ≤ length (now memory)) × (n ≤ length (now buffer)) ⌝ }
+    ensures { λ _. ⌜ now (buffer .exit) ≡ sets (now (buffer .entry)) 0 (part (now (memory .entry)) at n) ⌝ }
+{
+    put_bytes(buffer, 0, &memory[at..at + n]);
+}
+
+// Where the bytes of an extend lie.
+pub enum Source {
+    Payload,
+    Memory,
+}
+
+// The bytes that a source names, with no copy: all of the payload, or n bytes of memory.
+pub fn chosen<'a>(
+    payload: &'a [u8],
+    memory: &'a [u8],
+    source: Source,
+    at: usize,
+    n: usize,
+) -> &'a [u8]
+    requires { ⌜ InRange (now memory) source at n ⌝ }
+    ensures { λ r. ⌜ now r ≡ chosenOf (now (payload .entry)) (now (memory .entry)) source at n ⌝ }
+{
+    match source {
+        Source::Payload => payload,
+        Source::Memory => &memory[at..at + n],
+    }
+}
