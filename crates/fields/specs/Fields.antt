@@ -1,6 +1,6 @@
 -- A manifest's fields: zero ones, and what stands at a place of them.
 use Prim.Native.Nat.{ℕ, _+_}
-use mathlib.Core.List.{[]}
+use mathlib.Core.List.{List, []}
 use lib.ListN.{getD, replicate}
 use Rattle.fields.specs.declared.Run.{Run}
 use Rattle.fields.specs.declared.Entry.{Entry}
@@ -18,6 +18,10 @@ noRun = record { kind = 0; count = 0; first = 0 }
 
 abbrev pub noEntry : Entry
 noEntry = record { address = 0; input = 0; output = 0 }
+
+-- fields out of their parts
+abbrev pub fieldsOf : ℕ → ℕ → List Run → List Entry → Fields
+fieldsOf r e runs entries = record { r = r; e = e; runs = runs; entries = entries }
 
 -- all zero
 abbrev pub zeroFields : Fields

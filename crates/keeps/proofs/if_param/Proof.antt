@@ -1,0 +1,16 @@
+use borrow.Author.Needs.{needs}
+use borrow.Author.Tests.{eq-eqb, ne-eqb}
+use mathlib.Core.Path.{_≡_, refl, sym, _∙_, ap}
+use Rattle.keeps.proofs.if_param.Statement.{statement}
+use Rattle.keeps.proofs.if_param.Tie as tie
+use Rattle.keeps.proofs.if_param.Reads as reads
+use Rattle.keeps.proofs.if_param.Lts as lts
+
+returns : tie.Need-returns
+returns c = (rw (eq-eqb _ _ (c .if1 .taken)), search needs)
+
+returns-2 : tie.Need-returns-2
+returns-2 c = (rw (ne-eqb _ _ (c .if1 .left)), search needs)
+
+pub if-param-spec : {M : Type 1} → statement M
+if-param-spec = tie.close (tie.spec returns returns-2)
