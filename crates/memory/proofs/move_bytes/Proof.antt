@@ -1,68 +1,75 @@
-use mathlib.Core.Path.{_≡_, refl, sym, ap, _∙_}
-use Prim.Native.Nat.{_≤_, _-_}
-use lib.Seq.{sets}
-use lib.ListN.{length, length-set}
 use Rattle.lists.specs.Bytes.{part}
-use Rattle.lists.proofs.Parts.{move-turn}
+use Rattle.lists.proofs.Parts.{part-lent, part-long}
+use mathlib.Core.Path.{_≡_, refl, sym, ap, _∙_}
+use Prim.Native.Nat.{ℕ, _+_}
+use lib.ListN.{length, take, length-replicate}
+use lib.Seq.{sets}
+use Rattle.geometry.specs.Geometry.{pageSize}
+use Rattle.memory.proofs.Held.{held-back}
 use native.Mathlib.Omega.{arith}
+use borrow.Author.Needs.{needs}
 use Rattle.memory.proofs.move_bytes.Statement.{statement}
 use Rattle.memory.proofs.move_bytes.Tie as tie
 
-abbrev Inv-loop : tie.InvT-loop
-Inv-loop memory₀ from to n i₀ memory i = (i ≤ n) × (memory ≡ sets memory₀ to (part memory₀ from i)) × (length memory ≡ length memory₀)
+slice-aggregate-copy-in : tie.Need-slice-aggregate-copy-in
+slice-aggregate-copy-in c = search needs
 
-abbrev μ-loop : tie.MeasureT-loop
-μ-loop memory₀ from to n i₀ memory i = n - i
+add-copy-in : tie.Need-add-copy-in
+add-copy-in c = search needs
 
-loop-holds : tie.Need-loop-holds Inv-loop μ-loop
-unfolding part
-loop-holds c = (omega arith, refl, omega arith)
+sub-copy-in : tie.Need-sub-copy-in
+sub-copy-in c = search needs
 
-add-memory : tie.Need-add-memory Inv-loop μ-loop
-add-memory c = omega arith
+part-copy-in-start : tie.Need-part-copy-in-start
+part-copy-in-start c = search needs
 
-slice-read-memory : tie.Need-slice-read-memory Inv-loop μ-loop
-slice-read-memory c = omega arith
+part-copy-in-end : tie.Need-part-copy-in-end
+part-copy-in-end c = search needs
 
-add-memory-2 : tie.Need-add-memory-2 Inv-loop μ-loop
-add-memory-2 c = omega arith
+copy-in-requires : tie.Need-copy-in-requires
+copy-in-requires c κs = search needs
 
-slice-write-memory : tie.Need-slice-write-memory Inv-loop μ-loop
-slice-write-memory c = omega arith
+array-share-prefix-held : tie.Need-array-share-prefix-held
+array-share-prefix-held c = search needs
 
-add-i : tie.Need-add-i Inv-loop μ-loop
-add-i c = omega arith
+-- the bytes that move are as many as was asked
+long : (c : tie.After-held3) → length (part (c .before .before .before .before .before .before .before .before .args .memory .now) (c .before .before .before .before .before .before .before .before .args .from) (c .before .before .before .before .before .before .before .before .args .n)) ≡ c .before .before .before .before .before .before .before .before .args .n
+long c = part-long _ _ _ (omega arith)
 
-loop-less : tie.Need-loop-less Inv-loop μ-loop
-loop-less c = omega arith
+-- what is held is the bytes that move
+held : (c : tie.After-held3) → take (c .before .before .before .before .before .before .before .before .args .n) (c .before .before .before .copy-in .last .0) ≡ part (c .before .before .before .before .before .before .before .before .args .memory .now) (c .before .before .before .before .before .before .before .before .args .from) (c .before .before .before .before .before .before .before .before .args .n)
+held c =
+    let s = c .before .before .before .before .before .before .before .before in
+    let e = part-lent (s .args .memory .now) (s .args .from) (s .args .from + s .args .n) (s .args .n) refl in
+    held-back _ (part (s .args .memory .now) (s .args .from) (s .args .n)) (s .args .n) (c .before .before .before .copy-in .ensures ∙ ap (sets _ 0) e) (long c) (omega (arith, length-replicate {A = ℕ} pageSize 0))
 
-loop-again : tie.Need-loop-again Inv-loop μ-loop
-loop-again c =
-    let l = c .before .before in
-    let s = l .before in
-    (omega arith, move-turn (s .args .memory .now) _ _ (s .args .n) _ (l .loop .inv .1) (s .pre .1) (omega arith) (omega arith), simp length-set (l .loop .inv .2))
+slice-aggregate-copy-in-2 : tie.Need-slice-aggregate-copy-in-2
+slice-aggregate-copy-in-2 c = sym (ap length (held c) ∙ long c)
 
-same-length : tie.Need-same-length Inv-loop μ-loop
-same-length c = c .before .loop .inv .2
+copy-in-requires-2 : tie.Need-copy-in-requires-2
+copy-in-requires-2 c κs = omega (arith, ap length (held c) ∙ long c)
 
-returns : tie.Need-returns Inv-loop μ-loop
+same-length : tie.Need-same-length
+same-length c = search needs
+
+returns : tie.Need-returns
 returns c =
-    let e : c .before .loop .i ≡ c .before .before .args .n = omega arith in
-    cc
+    let h = c .before .before .before in
+    let s = h .before .before .before .before .before .before .before .before in
+    c .before .before .copy-in2 .ensures ∙ ap (sets (s .args .memory .now) (s .args .to)) (held h)
 
 pub move-bytes-spec : {M : Type 1} → statement M
 move-bytes-spec =
     tie.close
     (tie.spec
-    Inv-loop
-    μ-loop
-    loop-holds
-    add-memory
-    slice-read-memory
-    add-memory-2
-    slice-write-memory
-    add-i
-    loop-less
-    loop-again
+    slice-aggregate-copy-in
+    add-copy-in
+    sub-copy-in
+    part-copy-in-start
+    part-copy-in-end
+    copy-in-requires
+    array-share-prefix-held
+    slice-aggregate-copy-in-2
+    copy-in-requires-2
     same-length
     returns)

@@ -1,62 +1,52 @@
 use mathlib.Core.Path.{_≡_, refl, sym, ap, _∙_}
-use Prim.Native.Nat.{_≤_, _-_}
+use Prim.Native.Nat.{ℕ}
+use lib.ListN.{length, take, length-replicate}
 use lib.Seq.{sets}
-use lib.ListN.{length, take, length-set}
-use lib.Seq.{take-all}
-use Rattle.lists.proofs.Parts.{put-turn}
+use Rattle.geometry.specs.Geometry.{pageSize}
+use Rattle.memory.proofs.Held.{held-back}
 use native.Mathlib.Omega.{arith}
+use borrow.Author.Needs.{needs}
 use Rattle.memory.proofs.put_bytes.Statement.{statement}
 use Rattle.memory.proofs.put_bytes.Tie as tie
 
-abbrev Inv-loop : tie.InvT-loop
-Inv-loop memory₀ at payload i₀ memory i = (i ≤ length payload) × (memory ≡ sets memory₀ at (take i payload)) × (length memory ≡ length memory₀)
+slice-aggregate-copy-in : tie.Need-slice-aggregate-copy-in
+slice-aggregate-copy-in c = search needs
 
-abbrev μ-loop : tie.MeasureT-loop
-μ-loop memory₀ at payload i₀ memory i = length payload - i
+copy-in-requires : tie.Need-copy-in-requires
+copy-in-requires c κs = search needs
 
-loop-holds : tie.Need-loop-holds Inv-loop μ-loop
-loop-holds c = (omega arith, refl, omega arith)
+array-share-prefix-held : tie.Need-array-share-prefix-held
+array-share-prefix-held c = search needs
 
-shared-slice-read-memory : tie.Need-shared-slice-read-memory Inv-loop μ-loop
-shared-slice-read-memory c = omega arith
+-- what is held is the payload
+held : (c : tie.After-held3) → take (length (c .before .before .before .before .before .before .before .args .payload .now)) (c .before .before .before .copy-in .last .0) ≡ c .before .before .before .before .before .before .before .args .payload .now
+held c =
+    let s = c .before .before .before .before .before .before .before in
+    held-back _ (s .args .payload .now) (length (s .args .payload .now)) (c .before .before .before .copy-in .ensures) refl (omega (arith, length-replicate {A = ℕ} pageSize 0))
 
-add-memory : tie.Need-add-memory Inv-loop μ-loop
-add-memory c = omega arith
+slice-aggregate-copy-in-2 : tie.Need-slice-aggregate-copy-in-2
+slice-aggregate-copy-in-2 c = sym (ap length (held c))
 
-slice-write-memory : tie.Need-slice-write-memory Inv-loop μ-loop
-slice-write-memory c = omega arith
+copy-in-requires-2 : tie.Need-copy-in-requires-2
+copy-in-requires-2 c κs = omega (arith, ap length (held c))
 
-add-i : tie.Need-add-i Inv-loop μ-loop
-add-i c = omega arith
+same-length : tie.Need-same-length
+same-length c = search needs
 
-loop-less : tie.Need-loop-less Inv-loop μ-loop
-loop-less c = omega arith
-
-loop-again : tie.Need-loop-again Inv-loop μ-loop
-loop-again c =
-    let l = c .before .before in
-    let s = l .before in
-    (omega arith, put-turn (s .args .memory .now) _ (s .args .payload .now) _ (l .loop .inv .1) (omega arith), simp length-set (l .loop .inv .2))
-
-same-length : tie.Need-same-length Inv-loop μ-loop
-same-length c = c .before .loop .inv .2
-
-returns : tie.Need-returns Inv-loop μ-loop
+returns : tie.Need-returns
 returns c =
-    c .before .loop .inv .1 ∙ ap (sets _ _) (take-all (c .before .loop .i) (c .before .before .args .payload .now) (omega arith))
+    let h = c .before .before .before in
+    let s = h .before .before .before .before .before .before .before in
+    c .before .before .copy-in2 .ensures ∙ ap (sets (s .args .memory .now) (s .args .at)) (held h)
 
 pub put-bytes-spec : {M : Type 1} → statement M
 put-bytes-spec =
     tie.close
     (tie.spec
-    Inv-loop
-    μ-loop
-    loop-holds
-    shared-slice-read-memory
-    add-memory
-    slice-write-memory
-    add-i
-    loop-less
-    loop-again
+    slice-aggregate-copy-in
+    copy-in-requires
+    array-share-prefix-held
+    slice-aggregate-copy-in-2
+    copy-in-requires-2
     same-length
     returns)

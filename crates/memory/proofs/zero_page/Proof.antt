@@ -1,4 +1,3 @@
-use mathlib.Core.Path.{_≡_, sym, ap, _∙_}
 use Rattle.lists.specs.Bytes.{wipe}
 use borrow.Author.Needs.{needs}
 use Rattle.memory.proofs.zero_page.Statement.{statement}
