@@ -15,7 +15,7 @@ use fields::Run;
 use geometry::Geometry;
 
 // ---- counts
-fn counts_right(r: usize, e: usize) -> bool
+pub fn counts_right(r: usize, e: usize) -> bool
     ensures { λ b. ⌜ b ≡ countsRight (fieldsOf r e [] []) ⌝ }
 {
     ((2 <= r) & (r <= 4)) & ((1 <= e) & (e <= 8))
@@ -37,7 +37,7 @@ fn run_end(x: Run) -> usize
     x.first as usize + x.count as usize
 }
 
-fn run_right(x: Run) -> bool
+pub fn run_right(x: Run) -> bool
     ensures { λ b. ⌜ b ≡ runRight x ⌝ }
 {
     let known = known_kind(x.kind);
@@ -164,7 +164,7 @@ fn in_code(r: usize, runs: [Run; 4], page: usize) -> bool
     ok
 }
 
-fn lengths_right(x: Entry) -> bool
+pub fn lengths_right(x: Entry) -> bool
     ensures { λ b. ⌜ b ≡ lengthsRight x ⌝ }
 {
     (x.input as usize <= Geometry::HALF) & (x.output as usize <= Geometry::HALF)

@@ -1,0 +1,17 @@
+use mathlib.Core.Path.{_≡_, refl, sym, _∙_, ap}
+use Rattle.manifest.proofs.Equal.{equal-is}
+use borrow.Author.Needs.{needs}
+use Rattle.manifest.proofs.same.Statement.{statement}
+use Rattle.manifest.proofs.same.Tie as tie
+use Rattle.manifest.proofs.same.Reads as reads
+use Rattle.manifest.proofs.same.Lts as lts
+use Rattle.check.proofs.same.Reads as same-reads
+
+same-requires : tie.Need-same-requires
+same-requires c κs = search needs
+
+returns : tie.Need-returns
+returns c = equal-is _ _ _ _ refl (c .same .ensures .0) (c .same .ensures .1)
+
+pub same-spec : {M : Type 1} → statement M
+same-spec = tie.close (tie.spec same-requires returns)

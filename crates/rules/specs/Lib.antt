@@ -1,0 +1,5 @@
+pub mod Plan
+pub mod Tests
+pub mod Decide
+pub mod Act
+pub mod Isolation

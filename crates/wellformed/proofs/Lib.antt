@@ -1,0 +1,6 @@
+pub mod Once
+pub mod Facts
+pub mod Runs
+pub mod Zeros
+pub mod States
+pub mod Pages
