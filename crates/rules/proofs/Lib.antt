@@ -5,3 +5,4 @@ pub mod Safe
 pub mod Rules
 pub mod Effects
 pub mod Isolated
+pub mod Shapes

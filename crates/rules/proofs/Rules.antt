@@ -17,7 +17,7 @@ use Rattle.geometry.specs.Geometry.{mostPages, slotCount, pageOf}
 use Rattle.memory.specs.declared.Source.{Source}
 use Rattle.memory.specs.declared.Source.the-variants.{Payload, Memory}
 use Rattle.fields.specs.declared.Fields.{Fields}
-use Rattle.fields.specs.Pages.{pagesOf, hasPage, paramOf}
+use Rattle.fields.specs.Pages.{hasPage, paramOf}
 use Rattle.fields.proofs.PageLaws.{page-listed}
 use Rattle.manifest.specs.declared.Reading.{Reading}
 use Rattle.state.specs.declared.Card.{Card}
@@ -151,7 +151,7 @@ module _ (k : ℕ) (f : Face) (short : length (f .owner) ≤ mostPages) (live : 
       gone : j ≡ k → After k f (released f j a)
       gone q =
           frees (rw (q, getD-set-same (f .cards) k zeroCard noCard (card-below f k live)))
-          (pagesOf (cardAt f j .fields)) refl (λ p h. own-listed f g j p short b (rw q h)) (ap clear q)
+          _ refl (λ p h. own-listed f g j p short b (rw q h)) (ap clear q)
 
       kept : j ≢ k → After k f (released f j a)
       kept q =
@@ -173,9 +173,9 @@ module _ (k : ℕ) (f : Face) (short : length (f .owner) ≤ mostPages) (live : 
       (λ t. still-safe o n nothing keep same answer.Done tt (omega arith) tt tt)
       (λ t. released-safe g o n j (answer.Terminated j) b)
 
-  source-safe : (j size : ℕ) (source : Source) (a c : ℕ) → sourceRight f source size a c ≡ true → sourceReached f j source a c ≡ true → SafeSource k f (runs k (Secure j)) j source a c
-  source-safe j size Payload a c r t = λ o. eqb-true j k o
-  source-safe j size Memory a c r t = λ q. unlooked-out a c (isOwn f j (pageOf a)) r t (λ y z. q (omega (arith, eqb-true (ownerAt f (pageOf a)) (j + 1) y)))
+  source-safe : (j n : ℕ) (source : Source) (a c : ℕ) → sourceRight f source n a c ≡ true → sourceReached f j source a c ≡ true → SafeSource k f (runs k (Secure j)) j source a c
+  source-safe j n Payload a c r t = λ o. eqb-true j k o
+  source-safe j n Memory a c r t = λ q. unlooked-out a c (isOwn f j (pageOf a)) r t (λ y z. q (omega (arith, eqb-true (ownerAt f (pageOf a)) (j + 1) y)))
 
   extend-safe : (n j i : ℕ) (source : Source) (a c : ℕ) → Safe k f (runs k (Secure j)) n (extendRule f j n i source a c)
   unfolding extendRule
