@@ -2,3 +2,4 @@ pub mod Equal
 pub mod Places
 pub mod Widths
 pub mod Steps
+pub mod Puts

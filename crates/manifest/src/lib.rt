@@ -1,8 +1,14 @@
 // The manifest: read from the trailer backward, and written (document 01, "Manifest: body first, trailer last").
 ghost use mathlib.Core.Path.{_≡_};
+ghost use mathlib.Core.List.{[]};
 ghost use Prim.Native.Nat.{ℕ, _+_, _*_, _≤_, _<_};
 ghost use lib.ListN.{length, getD};
-ghost use Rattle.lists.specs.Numbers.{littleAt};
+ghost use lib.Seq.{sets};
+ghost use Rattle.lists.specs.Below.{joined};
+ghost use Rattle.lists.specs.Numbers.{little, littleAt};
+ghost use Rattle.fields.specs.Fields.{fieldsOf};
+ghost use Rattle.manifest.specs.Layout.{itemSize, runBytes, entryBytes, trailerBytes, runBytesAt, entryBytesAt};
+ghost use Rattle.manifest.specs.Writer.{wrote, writeManifest};
 ghost use Rattle.manifest.specs.Reader.{equal, trailerOf, runOf, entryOf, refusedReading, readManifest};
 use fields::Entry;
 use fields::Fields;
@@ -13,6 +19,9 @@ const FIXED: [u8; 5] = *b"SSCB\x01";
 
 // "3: manifest or its fields break a rule"
 const RULE_BROKEN: u8 = 3;
+
+// "9: answer buffer too short"
+const BUFFER_SHORT: u8 = 9;
 
 const NO_RUN: Run = Run {
     kind: 0,
@@ -29,6 +38,12 @@ const NO_ENTRY: Entry = Entry {
 pub struct Counts {
     pub r: usize,
     pub e: usize,
+}
+
+// How many bytes were written, or the number of the refusal.
+pub enum Written {
+    Bytes(usize),
+    Refused(u8),
 }
 
 // The answers of a manifest's fields.
@@ -203,4 +218,109 @@ pub fn read(bytes: &[u8]) -> Reading
         entries,
     };
     Reading { refusal: 0, fields }
+}
+
+// Eight bytes of a run, of an entry.
+fn put_run(buffer: &mut [u8], at: usize, x: Run)
+    requires { ⌜ at + 8 ≤ length (now buffer) ⌝ }
+    ensures { λ _. ⌜ now (buffer .exit) ≡ sets (now (buffer .entry)) at (runBytes x) ⌝ }
+{
+    let count = x.count;
+    let first = x.first;
+    let b = [
+        x.kind,
+        0,
+        (count % 256) as u8,
+        (count / 256 % 256) as u8,
+        (first % 256) as u8,
+        (first / 256 % 256) as u8,
+        (first / 65536 % 256) as u8,
+        (first / 16777216 % 256) as u8,
+    ];
+    memory::put_bytes(buffer, at, &b);
+}
+
+fn put_entry(buffer: &mut [u8], at: usize, x: Entry)
+    requires { ⌜ at + 8 ≤ length (now buffer) ⌝ }
+    ensures { λ _. ⌜ now (buffer .exit) ≡ sets (now (buffer .entry)) at (entryBytes x) ⌝ }
+{
+    let address = x.address;
+    let input = x.input;
+    let output = x.output;
+    let b = [
+        (address % 256) as u8,
+        (address / 256 % 256) as u8,
+        (address / 65536 % 256) as u8,
+        (address / 16777216 % 256) as u8,
+        (input % 256) as u8,
+        (input / 256 % 256) as u8,
+        (output % 256) as u8,
+        (output / 256 % 256) as u8,
+    ];
+    memory::put_bytes(buffer, at, &b);
+}
+
+// A distance back, which is below 256 here.
+fn put_distance(buffer: &mut [u8], at: usize, x: usize)
+    requires { ⌜ (at + 4 ≤ length (now buffer)) × (x < 256) ⌝ }
+    ensures { λ _. ⌜ now (buffer .exit) ≡ sets (now (buffer .entry)) at (little 4 x) ⌝ }
+{
+    let b = [x as u8, 0, 0, 0];
+    memory::put_bytes(buffer, at, &b);
+}
+
+fn put_trailer(buffer: &mut [u8], at: usize, r: usize, e: usize)
+    requires { ⌜ at + 16 ≤ length (now buffer) ⌝ }
+    requires { ⌜ (r ≤ 4) × (e ≤ 8) ⌝ }
+    ensures { λ _. ⌜ now (buffer .exit) ≡ sets (now (buffer .entry)) at (trailerBytes r e) ⌝ }
+{
+    memory::put_bytes(buffer, at, &FIXED);
+    let b = [r as u8, e as u8, 0];
+    memory::put_bytes(buffer, at + 5, &b);
+    put_distance(buffer, at + 8, 8 * (r + e));
+    put_distance(buffer, at + 12, 8 * e);
+}
+
+fn put_runs(buffer: &mut [u8], r: usize, runs: [Run; 4])
+    requires { ⌜ (r ≤ 4) × (itemSize * r ≤ length (now buffer)) ⌝ }
+    ensures { λ _. ⌜ now (buffer .exit) ≡ sets (now (buffer .entry)) 0 (joined r (runBytesAt (fieldsOf r 0 runs []))) ⌝ }
+{
+    let mut k: usize = 0;
+    while k < r {
+        let x = runs[k];
+        put_run(buffer, 8 * k, x);
+        k += 1;
+    }
+}
+
+fn put_entries(buffer: &mut [u8], at: usize, e: usize, entries: [Entry; 8])
+    requires { ⌜ (e ≤ 8) × (at + itemSize * e ≤ length (now buffer)) ⌝ }
+    ensures { λ _. ⌜ now (buffer .exit) ≡ sets (now (buffer .entry)) at (joined e (entryBytesAt (fieldsOf 0 e [] entries))) ⌝ }
+{
+    let mut k: usize = 0;
+    while k < e {
+        let x = entries[k];
+        put_entry(buffer, at + 8 * k, x);
+        k += 1;
+    }
+}
+
+pub fn write(f: Fields, buffer: &mut [u8]) -> Written
+    ensures { λ x. ⌜ wrote x (now (buffer .exit)) ≡ writeManifest f (now (buffer .entry)) ⌝ }
+{
+    if !keeps::keeps_rules(f) {
+        return Written::Refused(RULE_BROKEN);
+    }
+    let r = f.r;
+    let e = f.e;
+    let n = 8 * (r + e) + 16;
+    if buffer.len() < n {
+        return Written::Refused(BUFFER_SHORT);
+    }
+    let runs = f.runs;
+    let entries = f.entries;
+    put_runs(buffer, r, runs);
+    put_entries(buffer, 8 * r, e, entries);
+    put_trailer(buffer, 8 * (r + e), r, e);
+    Written::Bytes(n)
 }

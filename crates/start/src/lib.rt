@@ -3,7 +3,6 @@ ghost use mathlib.Core.Path.{_≡_};
 ghost use Prim.Native.Nat.{_≤_, _<_, _+_};
 ghost use Rattle.lists.specs.Below.{table};
 ghost use Rattle.geometry.specs.Geometry.{mostPages};
-ghost use Rattle.wellformed.specs.WellFormed.{sizesRight};
 ghost use Rattle.start.specs.Start.{freshOwner, bare, startOf};
 ghost use Rattle.start.specs.Promise.{Accepts, Refuses};
 use geometry::Geometry;
@@ -62,16 +61,10 @@ fn bare_state(p: usize, m: usize, owner: [u8; Geometry::MOST_PAGES]) -> State
     }
 }
 
-fn sizes_right(p: usize, m: usize) -> bool
-    ensures { λ r. ⌜ r ≡ sizesRight p m ⌝ }
-{
-    ((Geometry::LEAST_PAGES <= p) & (p <= Geometry::MOST_PAGES)) & ((1 <= m) & (m < p))
-}
-
 pub fn start(pages: usize, kept: usize) -> Started
     ensures { λ r. ⌜ r ≡ startOf pages kept ⌝ }
 {
-    if sizes_right(pages, kept) {
+    if wellformed::sizes_right(pages, kept) {
         let owner = fresh_owner(pages, kept);
         let fresh = bare_state(pages, kept, owner);
         return Started {

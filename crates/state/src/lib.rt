@@ -1,7 +1,9 @@
 // The monitor's state, by value (document 01, "Machine and numbers").
 ghost use mathlib.Core.Path.{_≡_};
 ghost use Rattle.state.specs.Zero.{zeroSlot};
-ghost use Rattle.state.specs.Slots.{entryFound};
+ghost use Prim.Native.Nat.{_<_};
+ghost use Rattle.geometry.specs.Geometry.{pcrCount};
+ghost use Rattle.state.specs.Slots.{entryFound, extendedSlot};
 use fields::Entry;
 use fields::Fields;
 use fields::Run;
@@ -88,6 +90,18 @@ impl Slot {
         ensures { λ r. ⌜ r ≡ zeroSlot ⌝ }
     {
         Slot::zero()
+    }
+
+    // The µPCR of that number becomes SHA-1 of itself and the digest.
+    pub fn extended(self, index: usize, digest: Digest) -> Slot
+        requires { ⌜ index < pcrCount ⌝ }
+        ensures { λ r. ⌜ r ≡ extendedSlot self index digest ⌝ }
+    {
+        let mut t = self;
+        let old = t.pcrs[index];
+        let new = sha1::hash_pair(old, digest);
+        t.pcrs[index] = new;
+        t
     }
 
     pub fn entry_found(self, address: usize) -> Found

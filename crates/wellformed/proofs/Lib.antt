@@ -4,3 +4,4 @@ pub mod Runs
 pub mod Zeros
 pub mod States
 pub mod Pages
+pub mod Slots

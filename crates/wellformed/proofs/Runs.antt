@@ -1,14 +1,14 @@
 -- What well-formedness says of the running record, in each mode.
-use Prim.Native.Nat.{ℕ, _<_}
+use Prim.Native.Nat.{ℕ, _+_, _%_, _<_}
 use mathlib.Core.Path.{_≡_, refl, sym, ap, _∙_}
 use mathlib.Core.Bool.{Bool, true, false, _&&_}
-use lib.Dec.{ltb, eqb}
+use lib.Dec.{leb, ltb, eqb}
 use borrow.Author.Tests.{ltb-true, eqb-true, lt-ltb, eq-eqb, ne-eqb}
 use mathlib.Core.Logic.{_≢_}
 use Rattle.lists.specs.Below.{pick, any-below}
 use Rattle.lists.proofs.Logic.{and-l, and-r, both}
 use Rattle.lists.proofs.Any.{Found, any-find, any-hit}
-use Rattle.geometry.specs.Geometry.{slotCount, isRange, pageOf}
+use Rattle.geometry.specs.Geometry.{pageSize, slotCount, isRange, pageOf}
 use Rattle.fields.specs.declared.Fields.{Fields}
 use Rattle.state.specs.declared.Mode.{Mode}
 use Rattle.state.specs.declared.Mode.the-variants.{Legacy, Secure}
@@ -75,6 +75,15 @@ out-of-none f a n e g = rw (eq-eqb n 0 e, eq-eqb a 0 g)
 
 pub out-of-range : (f : Face) (a n : ℕ) → n ≢ 0 → isRange (f .pages) a n ≡ true → isOpen f (pageOf a) ≡ true → outRight f a n ≡ true
 out-of-range f a n e g h = rw (ne-eqb n 0 e, g, h)
+
+-- a range lies in memory
+pub range-inside : (p a n : ℕ) → isRange p a n ≡ true → pageOf a < p
+unfolding isRange
+range-inside p a n h =
+    ltb-true (pageOf a) p
+    (and-r (leb (a % pageSize + n) pageSize) (ltb (pageOf a) p)
+    (and-r (leb n pageSize) (leb (a % pageSize + n) pageSize && ltb (pageOf a) p)
+    (and-r (leb 1 n) (leb n pageSize && (leb (a % pageSize + n) pageSize && ltb (pageOf a) p)) h)))
 
 -- modeRight, mode by mode
 pub legacy-hold : (f : Face) → modeRight f Legacy ≡ true → f .running ≡ zeroRunning

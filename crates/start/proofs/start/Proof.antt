@@ -11,7 +11,6 @@ use Rattle.start.proofs.start.Reads as reads
 use Rattle.start.proofs.start.Lts as lts
 use Rattle.start.proofs.bare_state.Reads as bare-state-reads
 use Rattle.start.proofs.fresh_owner.Reads as fresh-owner-reads
-use Rattle.start.proofs.sizes_right.Reads as sizes-right-reads
 
 sizes-right-requires : tie.Need-sizes-right-requires
 sizes-right-requires c κs = search needs

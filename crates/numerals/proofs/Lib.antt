@@ -1,0 +1,4 @@
+pub mod Ranges
+pub mod Reading
+pub mod Hexed
+pub mod Writing

@@ -1,0 +1,23 @@
+use mathlib.Core.Path.{sym}
+use borrow.Author.Tests.{lt-ltb, le-ltb}
+use Rattle.lists.proofs.Logic.{pick-true, pick-false}
+use borrow.Author.Needs.{needs}
+use Rattle.numerals.proofs.hex_digit.Statement.{statement}
+use Rattle.numerals.proofs.hex_digit.Tie as tie
+use Rattle.numerals.proofs.hex_digit.Reads as reads
+use Rattle.numerals.proofs.hex_digit.Lts as lts
+
+add-result : tie.Need-add-result
+add-result c = search needs
+
+returns : tie.Need-returns
+returns c = sym (pick-true _ _ _ (lt-ltb _ _ (c .if1 .taken)))
+
+add-result-2 : tie.Need-add-result-2
+add-result-2 c = search needs
+
+returns-2 : tie.Need-returns-2
+returns-2 c = sym (pick-false _ _ _ (le-ltb _ _ (c .if1 .left)))
+
+pub hex-digit-spec : {M : Type 1} → statement M
+hex-digit-spec = tie.close (tie.spec add-result returns add-result-2 returns-2)

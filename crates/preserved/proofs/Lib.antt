@@ -1,0 +1,4 @@
+pub mod Given
+pub mod Nexts
+pub mod Plans
+pub mod Stays

@@ -1,0 +1,208 @@
+-- The plan of every rule keeps what well-formedness asks: of the face, and of free slots' µPCRs.
+use Prim.Native.Nat.{ℕ, _+_, _≤_, _<_}
+use native.Mathlib.Omega.{arith}
+use native.Mathlib.Decide.{ℕ-discrete}
+use mathlib.Core.Path.{_≡_, refl, sym, ap, subst, _∙_}
+use mathlib.Core.Logic.{_≢_}
+use mathlib.Core.Bool.{Bool, true, false, _&&_, _||_, not, false≢true}
+use mathlib.Core.List.{List, []}
+use lib.ListN.{length, getD, set, length-set}
+use lib.Seq.{getD-set-same, getD-set-other}
+use lib.Dec.{leb, ltb, eqb}
+use borrow.Author.Tests.{ltb-true, eqb-true}
+use Rattle.lists.specs.Below.{pick}
+use Rattle.lists.proofs.First.{first-at}
+use Rattle.lists.proofs.Logic.{and-l, and-r}
+use Rattle.geometry.specs.Geometry.{slotCount, pageOf}
+use Rattle.memory.specs.declared.Source.{Source}
+use Rattle.sha1.specs.declared.Digest.{Digest}
+use Rattle.fields.specs.Rules.{keepsRules}
+use Rattle.manifest.specs.declared.Reading.{Reading}
+use Rattle.state.specs.declared.Card.{Card}
+use Rattle.state.specs.declared.Mode.{Mode}
+use Rattle.state.specs.declared.Mode.the-variants.{Legacy, Secure}
+use Rattle.state.specs.Zero.{zeroCard}
+use Rattle.state.specs.Face.{Face, cardAt}
+use Rattle.wellformed.specs.WellFormed.{pcrsZero, pcrsRight, modeRight}
+use Rattle.wellformed.proofs.Facts.{Right}
+use Rattle.wellformed.proofs.Runs.{Runs, secure-hold}
+use Rattle.wellformed.proofs.States.{pcrs-free, of-pcrs}
+use Rattle.wellformed.proofs.Zeros.{zero-pcrs}
+use Rattle.events.specs.declared.Event.{Event}
+use Rattle.events.specs.declared.Event.the-variants.{Register, Unregister, Call, Return, Jump, Read, Write, DeviceRead, DeviceWrite, Extend, PcrRead}
+use Rattle.events.specs.declared.Answer.{Answer}
+use Rattle.events.specs.declared.Answer.the-variants as answer
+use Rattle.rules.specs.Plan.{Fetch, nothing, Store, keep, Seal, same, clear, extend, measure, Plan, refuse, guard, still}
+use Rattle.rules.specs.Tests.{Access, execute, mayReach, entryOf, underMark, callableAt, slotFor, freeAt, freeSlot, allOpen, withCard}
+use Rattle.rules.specs.Decide.{released, registered, registerRule, unregisterRule, entered, callEntry, callRule, entryFor, returnRule, jumpLegacy, jumpSecure, readRule, writeRule, extendRule, pcrRule, legacyOnly, secureOnly, byMode, ruleIn, decide}
+use Rattle.rules.specs.Act.{zeroPcrs, sealed}
+use Rattle.preserved.proofs.Given.{card-there, card-else}
+use Rattle.preserved.proofs.Nexts.{byEq, right-registered, right-freed, right-left, right-entered}
+
+-- slot k is registered in both faces, or in neither
+abbrev Alike : Face → Face → ℕ → Type 0
+Alike f g k = cardAt g k .registered ≡ cardAt f k .registered
+
+-- what is done to the µPCRs fits the slots before (f) and after (g)
+abbrev pub Fits : Face → Face → Seal → Type 0
+Fits f g same = (j : ℕ) → Alike f g j
+Fits f g (clear k) = (j : ℕ) → j ≢ k → Alike f g j
+Fits f g (extend k i source a n) = (cardAt g k .registered ≡ true) × ((j : ℕ) → j ≢ k → Alike f g j)
+Fits f g (measure k pages) = (cardAt g k .registered ≡ true) × ((j : ℕ) → j ≢ k → Alike f g j)
+
+pub record Good (f : Face) (p : Plan) : Type 0 where
+  pub right : Right (p .next)
+  pub pages : p .next .pages ≡ f .pages
+  pub long : length (p .next .cards) ≡ length (f .cards)
+  pub seals : Fits f (p .next) (p .seal)
+
+-- ---- the µPCRs of free slots stay zero
+
+module _ (f g : Face) (pcrs : List (List Digest)) (eight : length pcrs ≡ slotCount) (h : pcrsRight f pcrs ≡ true) where
+  -- one slot's are set, and it is registered or they are zero
+  set-right : (k : ℕ) (x : List Digest) → (cardAt g k .registered ≡ false → pcrsZero x ≡ true) → ((j : ℕ) → j ≢ k → Alike f g j) → pcrsRight g (set pcrs k x) ≡ true
+  set-right k x z e =
+      of-pcrs g (set pcrs k x)
+      (λ j l u. byEq j k
+      (λ q. rw (q, getD-set-same pcrs k x [] (omega arith)) (z (rw q at u)))
+      (λ q. rw (getD-set-other pcrs k j x [] q) (pcrs-free f pcrs h j l (sym (e j q) ∙ u))))
+
+  pub seal-right : (s : Seal) (payload m : List ℕ) → Fits f g s → pcrsRight g (sealed s payload m pcrs) ≡ true
+  seal-right same payload m e = of-pcrs g pcrs (λ j l u. pcrs-free f pcrs h j l (sym (e j) ∙ u))
+  seal-right (clear k) payload m e = set-right k zeroPcrs (λ _. zero-pcrs) e
+  seal-right (extend k i source a n) payload m e = set-right k _ (λ u. absurd (false≢true (sym u ∙ e .0))) (e .1)
+  seal-right (measure k pages) payload m e = set-right k _ (λ u. absurd (false≢true (sym u ∙ e .0))) (e .1)
+
+-- as many slots' µPCRs as before
+pub seal-long : (s : Seal) (payload m : List ℕ) (pcrs : List (List Digest)) → length (sealed s payload m pcrs) ≡ length pcrs
+seal-long same payload m pcrs = refl
+seal-long (clear k) payload m pcrs = length-set pcrs k zeroPcrs
+seal-long (extend k i source a n) payload m pcrs = length-set pcrs k _
+seal-long (measure k pages) payload m pcrs = length-set pcrs k _
+
+not-true : (b : Bool) → not b ≡ true → b ≡ false
+not-true true h = sym h
+not-true false h = refl
+
+-- ---- the rules
+
+module _ (f : Face) (r : Right f) (eight : length (f .cards) ≡ slotCount) where
+  refuse-good : (n : ℕ) → Good f (refuse n f)
+  refuse-good n = record { right = r; pages = refl; long = refl; seals = λ k. refl }
+
+  guard-good : (t : Bool) (n : ℕ) (p : Plan) → (t ≡ true → Good f p) → Good f (guard t n f p)
+  unfolding guard
+  guard-good true n p h = h refl
+  guard-good false n p h = refuse-good n
+
+  still-good : (x : Fetch) (y : Store) (z : Seal) (a : Answer) → Fits f f z → Good f (still f x y z a)
+  still-good x y z a h = record { right = r; pages = refl; long = refl; seals = h }
+
+  register-good : (mark : ℕ) (x : Reading) → (x .refusal ≡ 0 → keepsRules (x .fields) ≡ true) → f .mode ≡ Legacy → Good f (registerRule f mark x)
+  unfolding registerRule registered freeSlot withCard
+  register-good mark x rules e =
+      guard-good _ 3 _ λ a. guard-good _ 6 _ λ b. guard-good _ 7 _ λ c.
+      let k = freeSlot f in
+      let l : k < slotCount = ltb-true k slotCount c in
+      let new : Card = record { registered = true; mark = mark; fields = x .fields } in
+      record {
+        right = right-registered f r k mark (x .fields) (rules (eqb-true (x .refusal) 0 a)) b l eight (not-true (cardAt f k .registered) (first-at (freeAt f) slotCount l)) e;
+        pages = refl;
+        long = length-set (f .cards) k new;
+        seals = (ap (λ (y : Card). y .registered) (card-there f k new (x .fields) (k + 1) (omega arith)), λ j q. ap (λ (y : Card). y .registered) (card-else f k new (x .fields) (k + 1) j q));
+      }
+
+  released-good : (k : ℕ) (a : Answer) → k < slotCount → Good f (released f k a)
+  unfolding released withCard
+  released-good k a l =
+      record {
+        right = right-freed f r k l eight;
+        pages = refl;
+        long = length-set (f .cards) k zeroCard;
+        seals = λ j q. ap (λ (y : Card). y .registered) (card-else f k zeroCard (cardAt f k .fields) 0 j q);
+      }
+
+  unregister-good : (mark k : ℕ) → Good f (unregisterRule f mark k)
+  unfolding unregisterRule
+  unregister-good mark k = guard-good _ 8 _ λ t. released-good k answer.Done (ltb-true k slotCount (and-l (ltb k slotCount) _ t))
+
+  call-good : (mark a i o : ℕ) → Good f (callRule f mark a i o)
+  unfolding callRule callEntry entered slotFor
+  call-good mark a i o =
+      guard-good _ 8 _ λ s. guard-good _ 4 _ λ b. guard-good _ 4 _ λ c. guard-good _ 5 _ λ d. guard-good _ 5 _ λ g.
+      let k = slotFor f mark a in
+      let l : k < slotCount = ltb-true k slotCount s in
+      let t = first-at (callableAt f mark a) slotCount l in
+      let u = and-l (cardAt f k .registered) _ (and-l (underMark (cardAt f k) mark) _ t) in
+      let v = ltb-true _ _ (and-r (underMark (cardAt f k) mark) _ t) in
+      record { right = right-entered f r k (entryOf (cardAt f k .fields) a) o l u v c g; pages = refl; long = refl; seals = λ j. refl }
+
+  return-good : (k : ℕ) → Good f (returnRule f k)
+  unfolding returnRule
+  return-good k = record { right = right-left f r; pages = refl; long = refl; seals = λ j. refl }
+
+  jump-good : (a : ℕ) → Good f (jumpLegacy f a)
+  unfolding jumpLegacy
+  jump-good a = guard-good _ 4 _ λ b. guard-good _ 5 _ λ c. still-good _ _ same _ (λ j. refl)
+
+  pick-good : (t : Bool) (p q : Plan) → Good f p → Good f q → Good f (pick t p q)
+  pick-good true p q h g = h
+  pick-good false p q h g = g
+
+  stay-good : (k a : ℕ) → k < slotCount → Good f (jumpSecure f k a)
+  unfolding jumpSecure
+  stay-good k a l =
+      pick-good (mayReach (Secure k) f execute (pageOf a)) (still f nothing keep same answer.Done) (released f k (answer.Terminated k))
+      (still-good nothing keep same answer.Done (λ j. refl))
+      (released-good k (answer.Terminated k) l)
+
+  read-good : (m : Mode) (access : Access) (room a n : ℕ) → Good f (readRule m f access room a n)
+  unfolding readRule
+  read-good m access room a n = guard-good _ 4 _ λ b. guard-good _ 5 _ λ c. guard-good _ 9 _ λ d. still-good _ _ same _ (λ j. refl)
+
+  write-good : (m : Mode) (access : Access) (a n : ℕ) → Good f (writeRule m f access a n)
+  unfolding writeRule
+  write-good m access a n = guard-good _ 4 _ λ b. guard-good _ 5 _ λ c. still-good _ _ same _ (λ j. refl)
+
+  extend-good : (k size i : ℕ) (source : Source) (a n : ℕ) → cardAt f k .registered ≡ true → Good f (extendRule f k size i source a n)
+  unfolding extendRule
+  extend-good k size i source a n u =
+      guard-good _ 10 _ λ b. guard-good _ 4 _ λ c. guard-good _ 5 _ λ d. still-good _ _ (extend k i source a n) _ (u, λ j q. refl)
+
+  pcr-good : (k room i : ℕ) → Good f (pcrRule f k room i)
+  unfolding pcrRule
+  pcr-good k room i = guard-good _ 10 _ λ b. guard-good _ 9 _ λ c. still-good _ _ same _ (λ j. refl)
+
+  -- the slot that runs
+  running : (m : Mode) → f .mode ≡ m → (k : ℕ) → m ≡ Secure k → Runs f k (f .running)
+  running m e k q = secure-hold f k (subst (λ (x : Mode). modeRight f x ≡ true) (e ∙ q) (r .mode))
+
+  in-legacy : (m : Mode) (p : Plan) → (m ≡ Legacy → Good f p) → Good f (legacyOnly m f p)
+  in-legacy Legacy p h = h refl
+  in-legacy (Secure k) p h = refuse-good 2
+
+  in-secure : (m : Mode) (p : ℕ → Plan) → ((k : ℕ) → m ≡ Secure k → Good f (p k)) → Good f (secureOnly m f p)
+  in-secure Legacy p h = refuse-good 2
+  in-secure (Secure k) p h = h k refl
+
+  in-either : (m : Mode) (p : Plan) (q : ℕ → Plan) → Good f p → ((k : ℕ) → m ≡ Secure k → Good f (q k)) → Good f (byMode m p q)
+  in-either Legacy p q h g = h
+  in-either (Secure k) p q h g = g k refl
+
+  rule-good : (m : Mode) → f .mode ≡ m → (room size : ℕ) (x : Reading) → (x .refusal ≡ 0 → keepsRules (x .fields) ≡ true) → (e : Event) → Good f (ruleIn m f room size x e)
+  unfolding ruleIn
+  rule-good m e room size x rules (Register mark) = in-legacy m _ (λ q. register-good mark x rules (e ∙ q))
+  rule-good m e room size x rules (Unregister mark k) = in-legacy m _ (λ q. unregister-good mark k)
+  rule-good m e room size x rules (Call mark a i o) = in-legacy m _ (λ q. call-good mark a i o)
+  rule-good m e room size x rules Return = in-secure m _ (λ k q. return-good k)
+  rule-good m e room size x rules (Jump a) = in-either m _ _ (jump-good a) (λ k q. stay-good k a (running m e k q .below))
+  rule-good m e room size x rules (Read a n) = read-good m _ room a n
+  rule-good m e room size x rules (Write a) = write-good m _ a size
+  rule-good m e room size x rules (DeviceRead a n) = read-good m _ room a n
+  rule-good m e room size x rules (DeviceWrite a) = write-good m _ a size
+  rule-good m e room size x rules (Extend i source a n) = in-secure m _ (λ k q. extend-good k size i source a n (running m e k q .registered))
+  rule-good m e room size x rules (PcrRead i) = in-secure m _ (λ k q. pcr-good k room i)
+
+  pub decide-good : (ok : Bool) (room size : ℕ) (x : Reading) → (x .refusal ≡ 0 → keepsRules (x .fields) ≡ true) → (e : Event) → Good f (decide f ok room size x e)
+  unfolding decide
+  decide-good ok room size x rules e = guard-good ok 1 _ λ h. rule-good (f .mode) refl room size x rules e

@@ -1,0 +1,4 @@
+pub mod Laws
+pub mod Rewritten
+pub mod Reread
+pub mod Trips

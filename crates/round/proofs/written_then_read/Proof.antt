@@ -1,0 +1,11 @@
+use Rattle.round.proofs.Trips.{written-then-read}
+use Rattle.round.proofs.written_then_read.Statement.{statement}
+use Rattle.round.proofs.written_then_read.Tie as tie
+use Rattle.round.proofs.written_then_read.Reads as reads
+use Rattle.round.proofs.written_then_read.Lts as lts
+
+returns : tie.Need-returns
+returns c = written-then-read
+
+pub written-then-read-spec : {M : Type 1} → statement M
+written-then-read-spec = tie.close (tie.spec returns)

@@ -1,0 +1,99 @@
+-- What the code tests slot by slot is what the definition asks of the cards and of the µPCRs.
+use Prim.Native.Nat.{ℕ, _+_, _-_, _≤_, _<_}
+use native.Mathlib.Omega.{arith}
+use mathlib.Core.Path.{_≡_, refl, sym, ap, subst, _∙_}
+use mathlib.Core.Bool.{Bool, true, false, _&&_, _||_}
+use mathlib.Core.List.{List, []}
+use lib.ListN.{getD}
+use lib.Dec.{eqb, ltb}
+use borrow.Author.Tests.{eqb-true, lt-ltb}
+use Rattle.lists.specs.Below.{all-below, any-below}
+use Rattle.lists.proofs.Logic.{and-l, and-r, both, iff, decided}
+use Rattle.lists.proofs.All.{all-at, all-of}
+use Rattle.geometry.specs.Geometry.{slotCount}
+use Rattle.sha1.specs.declared.Digest.{Digest}
+use Rattle.fields.specs.Fields.{entryPlaces}
+use Rattle.fields.specs.Rules.{keepsRules}
+use Rattle.fields.specs.Pages.{pagesUnder}
+use Rattle.fields.proofs.Facts.{kept}
+use Rattle.state.specs.declared.Card.{Card}
+use Rattle.state.specs.declared.Slot.{Slot}
+use Rattle.state.specs.declared.State.{State}
+use Rattle.state.specs.Zero.{noSlot}
+use Rattle.state.specs.Face.{Face, faceOf, pcrsOf, cardAt, topOf}
+use Rattle.state.proofs.Faces.{card-at, pcrs-at}
+use Rattle.wellformed.specs.WellFormed.{cardZero, cardRight, cardRightAt, pcrsZero, pcrsRightAt, pcrsRight, sizesRight, heldOnce, ownerRightAt, outputAt, outRight, runningRight, modeRight, faceRight, stateRight}
+use Rattle.wellformed.specs.Tests.{slotRight, slotRightAt}
+use Rattle.wellformed.proofs.Facts.{card-rules, card-free}
+
+module _ (s : State) where
+  -- slot k's test, read off the face and the µPCRs
+  at-face : (k : ℕ) → slotRightAt s k ≡ cardRightAt (faceOf s) k && pcrsRightAt (faceOf s) (pcrsOf s) k
+  at-face k = rw (card-at (s .slots) k, pcrs-at (s .slots) k)
+
+  pub cards-of : all-below slotCount (slotRightAt s) ≡ true → (k : ℕ) → k < slotCount → cardRight (cardAt (faceOf s) k) (topOf (faceOf s)) ≡ true
+  cards-of h k l = and-l (cardRightAt (faceOf s) k) _ (sym (at-face k) ∙ all-at (slotRightAt s) slotCount h k l)
+
+  -- of the slot itself
+  pub card-of : all-below slotCount (slotRightAt s) ≡ true → (k : ℕ) → k < slotCount → cardRight (getD (s .slots) k noSlot .card) (s .pages - s .kept) ≡ true
+  card-of h k l = and-l (cardRight (getD (s .slots) k noSlot .card) (s .pages - s .kept)) _ (all-at (slotRightAt s) slotCount h k l)
+
+  pub slots-same : all-below slotCount (slotRightAt s) ≡ all-below slotCount (cardRightAt (faceOf s)) && pcrsRight (faceOf s) (pcrsOf s)
+  unfolding pcrsRight
+  slots-same =
+      iff (all-below slotCount (slotRightAt s)) (all-below slotCount (cardRightAt (faceOf s)) && all-below slotCount (pcrsRightAt (faceOf s) (pcrsOf s)))
+      (λ h. both (all-below slotCount (cardRightAt (faceOf s))) _
+      (all-of (cardRightAt (faceOf s)) slotCount (cards-of h))
+      (all-of (pcrsRightAt (faceOf s) (pcrsOf s)) slotCount (λ k l. and-r (cardRightAt (faceOf s) k) _ (sym (at-face k) ∙ all-at (slotRightAt s) slotCount h k l))))
+      (λ h. all-of (slotRightAt s) slotCount
+      (λ k l. at-face k ∙ both (cardRightAt (faceOf s) k) (pcrsRightAt (faceOf s) (pcrsOf s) k)
+      (all-at (cardRightAt (faceOf s)) slotCount (and-l (all-below slotCount (cardRightAt (faceOf s))) _ h) k l)
+      (all-at (pcrsRightAt (faceOf s) (pcrsOf s)) slotCount (and-r (all-below slotCount (cardRightAt (faceOf s))) _ h) k l)))
+
+  abbrev rest : Bool
+  rest = (all-below 1024 (heldOnce (faceOf s)) && all-below 1024 (ownerRightAt (faceOf s))) && modeRight (faceOf s) (s .mode)
+
+  shuffle : (a b c d e p : Bool) → (a && (b && (c && (d && e)))) && p ≡ a && ((b && p) && ((c && d) && e))
+  shuffle false b c d e p = refl
+  shuffle true false c d e p = refl
+  shuffle true true false d e false = refl
+  shuffle true true false d e true = refl
+  shuffle true true true false e false = refl
+  shuffle true true true false e true = refl
+  shuffle true true true true false false = refl
+  shuffle true true true true false true = refl
+  shuffle true true true true true false = refl
+  shuffle true true true true true true = refl
+
+  -- the whole test, in the code's order
+  pub state-parts : stateRight s ≡ sizesRight (s .pages) (s .kept) && (all-below slotCount (slotRightAt s) && rest)
+  unfolding stateRight faceRight
+  state-parts =
+      shuffle (sizesRight (s .pages) (s .kept)) (all-below slotCount (cardRightAt (faceOf s))) (all-below 1024 (heldOnce (faceOf s))) (all-below 1024 (ownerRightAt (faceOf s))) (modeRight (faceOf s) (s .mode)) (pcrsRight (faceOf s) (pcrsOf s))
+      ∙ ap (λ (t : Bool). sizesRight (s .pages) (s .kept) && (t && rest)) (sym slots-same)
+
+-- a slot's test by its case
+pub slot-used : (x : Slot) (top : ℕ) (r : Bool) → x .card .registered ≡ true → r ≡ keepsRules (x .card .fields) && pagesUnder (x .card .fields) top → r ≡ slotRight x top
+unfolding cardRight
+slot-used x top true e h = rw (e, ← h)
+slot-used x top false e h = rw (e, ← h)
+
+pub slot-free : (x : Slot) (top : ℕ) (r : Bool) → x .card .registered ≡ false → r ≡ cardZero (x .card) && pcrsZero (x .pcrs) → r ≡ slotRight x top
+unfolding cardRight
+slot-free x top r e h = rw e h
+
+-- a right card has at most eight entries
+pub entries-few : (x : Card) (top : ℕ) → cardRight x top ≡ true → x .fields .e ≤ entryPlaces
+entries-few x top h =
+    decided (x .registered)
+    (λ e. kept (x .fields) (card-rules x top h e) .bounds .few-entries)
+    (λ e. let f = x .fields in
+    let z = eqb-true (f .e) 0 (and-r (eqb (f .r) 0) _ (and-l (eqb (f .r) 0 && eqb (f .e) 0) _ (and-r (eqb (x .mark) 0) _ (card-free x top h e)))) in
+    omega arith)
+
+-- the running record's test, read off the slot
+pub running-parts : (s : State) (k : ℕ) (some out : Bool) → k < slotCount
+    → some ≡ any-below (getD (s .slots) k noSlot .card .fields .e) (outputAt (getD (s .slots) k noSlot .card .fields) (s .running .length))
+    → out ≡ outRight (faceOf s) (s .running .out) (s .running .length)
+    → (eqb (s .running .slot) k && getD (s .slots) k noSlot .card .registered) && (some && out) ≡ runningRight (faceOf s) k (s .running)
+running-parts s k some out l p q = rw (p, q, lt-ltb k slotCount l, card-at (s .slots) k)
