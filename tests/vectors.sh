@@ -1,15 +1,12 @@
 #!/usr/bin/env bash
 # Runs the program vectors on every published SHA-1 vector and on random messages, and holds what it writes to what is expected.
 #   tests/vectors.sh [SEED]
-# It wants target/bin/vectors (rt check vectors) and Debian's package python3-cryptography-vectors.
+# It wants target/bin/vectors (rt check vectors) and installs Debian's package python3-cryptography-vectors.
 set -euo pipefail
 cd "$(dirname "$0")/.."
 room=$(mktemp -d)
 trap 'rm -rf "$room"' EXIT
 python3 tests/vectors.py all "$room" "$@"
-own=${RATTLE:-/opt/rattle}/on/$(uname -m)/toolchain
-emulator=$own/bin/qemu-x86_64
-[ -x "$emulator" ] || emulator=''
-${emulator:+"$emulator"} "$own/lib/ld-linux-x86-64.so.2" --library-path "$own/lib" target/bin/vectors <"$room/stdin" >"$room/wrote"
+tests/run vectors <"$room/stdin" >"$room/wrote"
 cat "$room/wrote"
 cmp "$room/wrote" "$room/stdout"
