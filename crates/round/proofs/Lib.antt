@@ -2,3 +2,4 @@ pub mod Laws
 pub mod Rewritten
 pub mod Reread
 pub mod Trips
+pub mod Claims
