@@ -1,130 +1,136 @@
--- The tables compute. The states' well-formedness is computed once each; a row then opens the rules alone.
+-- The tables compute. A row opens the rules alone: its state's well-formedness is a fact.
 use Prim.Native.Nat.{ℕ, _*_}
-use mathlib.Core.Path.{_≡_, refl, ap}
+use mathlib.Core.Path.{_≡_, refl, sym, subst}
 use mathlib.Core.Bool.{true, false}
+use mathlib.Core.List.{List, [], _∷_}
 use Rattle.lists.specs.Below.{all-below, any-below, first-below, sum-below, table}
+use Rattle.lists.specs.Bytes.{part}
+use Rattle.lists.proofs.Logic.{both}
+use Rattle.lists.specs.Numbers.{little, littleAt}
 use Rattle.geometry.specs.Geometry.{pageSize, isRange}
-use Rattle.fields.specs.Pages.{hasPage, pagesUnder, paramOf}
+use Rattle.fields.specs.Pages.{hasPage}
 use Rattle.fields.specs.Rules.{countsRight, runsRise, pagesFew, someCode, oneParam, runsRight, inCode, entriesRise, entriesRight, unusedZero, keepsRules}
 use Rattle.manifest.specs.declared.Reading.{Reading}
+use Rattle.manifest.specs.Layout.{placed, fieldsAt}
+use Rattle.manifest.specs.Reader.{equal, trailerRight, accepts, refusedReading, readManifest}
+use Rattle.round.specs.Examples.{Example, allRight, manifestExamples, long}
+use Rattle.round.proofs.Claims.{right-append}
 use Rattle.state.specs.declared.State.{State}
 use Rattle.state.specs.Zero.{zeroState}
 use Rattle.state.specs.Face.{faceOf}
-use Rattle.wellformed.specs.WellFormed.{wellFormed, stateRight, faceRight, cardRight, pcrsRight, pcrsZero}
+use Rattle.wellformed.specs.WellFormed.{wellFormed}
+use Rattle.start.specs.Start.{freshState, startOf}
+use Rattle.devicemap.specs.Map.{numberOf, mapByte, mapOf}
 use Rattle.events.specs.declared.Event.{Event}
+use Rattle.events.specs.declared.Event.the-variants.{Read}
 use Rattle.events.specs.declared.Answer.{Answer}
-use Rattle.events.specs.declared.Answer.the-variants.{Refused}
+use Rattle.events.specs.declared.Answer.the-variants.{Filled, Refused}
 use Rattle.rules.specs.Plan.{guard}
 use Rattle.rules.specs.Tests.{entryOf, slotFor, freeSlot, allOpen}
 use Rattle.rules.specs.Decide.{released, registered, registerRule, unregisterRule, entered, callEntry, callRule, returnRule, jumpLegacy, jumpSecure, readRule, writeRule, extendRule, pcrRule, ruleIn, decide}
-use Rattle.alive.specs.Rows.{Shown, answer, Holds}
-use Rattle.alive.specs.States.{fresh, fieldsFrom, slotFrom, held, idle, called, someZeros, full}
-use Rattle.alive.specs.Examples.{answered, examples}
+use Rattle.alive.specs.Rows.{answered, Holds}
+use Rattle.alive.specs.States.{fresh, fieldsFrom, slotFrom, held, someZeros, full}
+use Rattle.alive.specs.Examples.{numbersOf, unread, read, refuses, mapExamples, readExamples, examples}
 use Rattle.alive.specs.Answers.{rests, runs, accepted, refused}
+use Rattle.alive.proofs.Wells.{Well, well-fresh, well-idle, well-called, well-full, not-zero}
 
-abbrev Well : State → Type 0
-Well s = wellFormed s (s .pages * pageSize) ≡ true
-
-well-fresh : Well fresh
-unfolding fresh wellFormed stateRight faceRight cardRight pcrsRight pcrsZero all-below any-below first-below sum-below hasPage
-well-fresh = refl
-
-well-rests : Well rests
-unfolding held slotFrom fieldsFrom wellFormed stateRight faceRight cardRight pcrsRight pcrsZero all-below any-below first-below sum-below hasPage pagesUnder countsRight runsRise pagesFew someCode oneParam runsRight inCode entriesRise entriesRight unusedZero keepsRules
-well-rests = refl
-
-well-runs : Well runs
-unfolding held slotFrom fieldsFrom wellFormed stateRight faceRight cardRight pcrsRight pcrsZero all-below any-below first-below sum-below hasPage pagesUnder countsRight runsRise pagesFew someCode oneParam runsRight inCode entriesRise entriesRight unusedZero keepsRules isRange
-well-runs = refl
-
-well-full : Well full
-unfolding full table slotFrom fieldsFrom wellFormed stateRight faceRight cardRight pcrsRight pcrsZero all-below any-below first-below sum-below hasPage pagesUnder countsRight runsRise pagesFew someCode oneParam runsRight inCode entriesRise entriesRight unusedZero keepsRules
-well-full = refl
-
--- a row: what is decided on a well-formed state
-told : (s : State) → Well s → (room size : ℕ) (x : Reading) (e : Event) (a : Answer) → decide (faceOf s) true room size x e .answer ≡ a → answer (answered s room size x e) ≡ answer a
+-- what is decided on a well-formed state
+told : (s : State) → Well s → (room size : ℕ) (x : Reading) (e : Event) (a : Answer) → decide (faceOf s) true room size x e .answer ≡ a → answered s room size x e ≡ a
 unfolding answered
-told s w room size x e a h = rw (answered, w) (ap answer h)
+told s w room size x e a h = rw (answered, w) h
 
 -- and on one that is not
-unwell : (s : State) → wellFormed s (s .pages * pageSize) ≡ false → (room size : ℕ) (x : Reading) (e : Event) → answer (answered s room size x e) ≡ answer (Refused 1)
+unwell : (s : State) → wellFormed s (s .pages * pageSize) ≡ false → (room size : ℕ) (x : Reading) (e : Event) → answered s room size x e ≡ Refused 1
 unfolding answered decide guard
 unwell s w room size x e = rw (answered, w)
 
-not-zero : wellFormed zeroState (zeroState .pages * pageSize) ≡ false
-unfolding wellFormed stateRight faceRight
-not-zero = refl
+-- ---- E1 to E12
 
-pub examples-hold : Holds examples
-unfolding examples fresh decide guard ruleIn readRule isRange
-examples-hold = (
+none-right : allRight [] ≡ true
+unfolding allRight
+none-right = refl
+
+manifests-right : allRight manifestExamples ≡ true
+unfolding allRight manifestExamples any-below all-below inCode little long littleAt part placed table sum-below countsRight runsRise pagesFew someCode oneParam runsRight entriesRise entriesRight unusedZero keepsRules fieldsAt trailerRight accepts refusedReading readManifest
+manifests-right = refl
+
+maps-right : allRight mapExamples ≡ true
+unfolding allRight mapExamples startOf freshState table mapOf mapByte numberOf
+maps-right = refl
+
+-- a read in front of entries that are right
+read-then : (a n : ℕ) (r : Answer) (says : List ℕ) (xs : List Example) → decide (faceOf fresh) true pageSize 0 unread (Read a n) .answer ≡ r → equal (numbersOf r) says ≡ true
+    → allRight xs ≡ true → allRight (read a n says ∷ xs) ≡ true
+unfolding allRight
+read-then a n r says xs e q h =
+    let t = told fresh well-fresh pageSize 0 unread (Read a n) r e in
+    both (equal (numbersOf (answered fresh pageSize 0 unread (Read a n))) says) (allRight xs) (subst (λ (z : Answer). equal (numbersOf z) says ≡ true) (sym t) q) h
+
+reads-right : allRight readExamples ≡ true
+unfolding readExamples startOf freshState table decide guard ruleIn readRule isRange
+reads-right =
+    read-then 4095 1 (Filled 1) _ _ refl refl
+    (read-then 4095 2 (Refused 4) _ _ refl refl
+    (read-then 0 4096 (Filled 4096) _ _ refl refl
+    (read-then 0 0 (Refused 4) _ _ refl refl
+    (read-then 0 4097 (Refused 4) _ _ refl refl
+    (read-then 32767 1 (Refused 5) _ _ refl refl
+    (read-then 32768 1 (Refused 4) (refuses 4) [] refl refl none-right))))))
+
+pub examples-hold : allRight examples ≡ true
+unfolding examples
+examples-hold = right-append manifestExamples _ manifests-right (right-append mapExamples readExamples maps-right reads-right)
+
+-- ---- the tables
+
+pub events-accepted : Holds accepted
+unfolding accepted startOf freshState held slotFrom fieldsFrom decide guard ruleIn registerRule registered unregisterRule released callRule callEntry entered returnRule jumpLegacy jumpSecure readRule writeRule extendRule pcrRule slotFor entryOf freeSlot allOpen isRange all-below any-below first-below hasPage inCode long littleAt part placed table sum-below countsRight runsRise pagesFew someCode oneParam runsRight entriesRise entriesRight unusedZero keepsRules fieldsAt trailerRight accepts refusedReading readManifest
+events-accepted = (
   told fresh well-fresh _ _ _ _ _ refl,
   (
     told fresh well-fresh _ _ _ _ _ refl,
     (
-      told fresh well-fresh _ _ _ _ _ refl,
+      told rests (well-idle someZeros) _ _ _ _ _ refl,
       (
-        told fresh well-fresh _ _ _ _ _ refl,
+        told rests (well-idle someZeros) _ _ _ _ _ refl,
         (
-          told fresh well-fresh _ _ _ _ _ refl,
+          told rests (well-idle someZeros) _ _ _ _ _ refl,
           (
-            told fresh well-fresh _ _ _ _ _ refl,
+            told rests (well-idle someZeros) _ _ _ _ _ refl,
             (
-              told fresh well-fresh _ _ _ _ _ refl,
-              tt,
-            ),
-          ),
-        ),
-      ),
-    ),
-  ),
-)
-
-pub events-accepted : Holds accepted
-unfolding accepted fresh held slotFrom fieldsFrom decide guard ruleIn registerRule registered unregisterRule released callRule callEntry entered returnRule jumpLegacy jumpSecure readRule writeRule extendRule pcrRule slotFor entryOf freeSlot allOpen isRange all-below any-below first-below hasPage inCode
-events-accepted = (
-  told fresh well-fresh _ _ _ _ _ refl,
-  (
-    told rests well-rests _ _ _ _ _ refl,
-    (
-      told rests well-rests _ _ _ _ _ refl,
-      (
-        told rests well-rests _ _ _ _ _ refl,
-        (
-          told rests well-rests _ _ _ _ _ refl,
-          (
-            told rests well-rests _ _ _ _ _ refl,
-            (
-              told rests well-rests _ _ _ _ _ refl,
+              told rests (well-idle someZeros) _ _ _ _ _ refl,
               (
-                told rests well-rests _ _ _ _ _ refl,
+                told rests (well-idle someZeros) _ _ _ _ _ refl,
                 (
-                  told rests well-rests _ _ _ _ _ refl,
+                  told rests (well-idle someZeros) _ _ _ _ _ refl,
                   (
-                    told runs well-runs _ _ _ _ _ refl,
+                    told rests (well-idle someZeros) _ _ _ _ _ refl,
                     (
-                      told runs well-runs _ _ _ _ _ refl,
+                      told runs (well-called someZeros) _ _ _ _ _ refl,
                       (
-                        told runs well-runs _ _ _ _ _ refl,
+                        told runs (well-called someZeros) _ _ _ _ _ refl,
                         (
-                          told runs well-runs _ _ _ _ _ refl,
+                          told runs (well-called someZeros) _ _ _ _ _ refl,
                           (
-                            told runs well-runs _ _ _ _ _ refl,
+                            told runs (well-called someZeros) _ _ _ _ _ refl,
                             (
-                              told runs well-runs _ _ _ _ _ refl,
+                              told runs (well-called someZeros) _ _ _ _ _ refl,
                               (
-                                told runs well-runs _ _ _ _ _ refl,
+                                told runs (well-called someZeros) _ _ _ _ _ refl,
                                 (
-                                  told runs well-runs _ _ _ _ _ refl,
+                                  told runs (well-called someZeros) _ _ _ _ _ refl,
                                   (
-                                    told runs well-runs _ _ _ _ _ refl,
+                                    told runs (well-called someZeros) _ _ _ _ _ refl,
                                     (
-                                      told runs well-runs _ _ _ _ _ refl,
+                                      told runs (well-called someZeros) _ _ _ _ _ refl,
                                       (
-                                        told runs well-runs _ _ _ _ _ refl,
+                                        told runs (well-called someZeros) _ _ _ _ _ refl,
                                         (
-                                          told runs well-runs _ _ _ _ _ refl,
-                                          tt,
+                                          told runs (well-called someZeros) _ _ _ _ _ refl,
+                                          (
+                                            told runs (well-called someZeros) _ _ _ _ _ refl,
+                                            tt,
+                                          ),
                                         ),
                                       ),
                                     ),
@@ -148,61 +154,61 @@ events-accepted = (
 )
 
 pub refusals-given : Holds refused
-unfolding refused fresh full table held slotFrom fieldsFrom decide guard ruleIn registerRule registered unregisterRule released callRule callEntry entered returnRule jumpLegacy jumpSecure readRule writeRule extendRule pcrRule slotFor entryOf freeSlot allOpen isRange all-below any-below first-below hasPage inCode
+unfolding refused startOf freshState full table held slotFrom fieldsFrom decide guard ruleIn registerRule registered unregisterRule released callRule callEntry entered returnRule jumpLegacy jumpSecure readRule writeRule extendRule pcrRule slotFor entryOf freeSlot allOpen isRange all-below any-below first-below hasPage inCode
 refusals-given = (
   unwell zeroState not-zero _ _ _ _,
   (
-    told rests well-rests _ _ _ _ _ refl,
+    told rests (well-idle someZeros) _ _ _ _ _ refl,
     (
-      told runs well-runs _ _ _ _ _ refl,
+      told runs (well-called someZeros) _ _ _ _ _ refl,
       (
-        told rests well-rests _ _ _ _ _ refl,
+        told rests (well-idle someZeros) _ _ _ _ _ refl,
         (
-          told rests well-rests _ _ _ _ _ refl,
+          told rests (well-idle someZeros) _ _ _ _ _ refl,
           (
-            told rests well-rests _ _ _ _ _ refl,
+            told rests (well-idle someZeros) _ _ _ _ _ refl,
             (
-              told rests well-rests _ _ _ _ _ refl,
+              told rests (well-idle someZeros) _ _ _ _ _ refl,
               (
-                told rests well-rests _ _ _ _ _ refl,
+                told rests (well-idle someZeros) _ _ _ _ _ refl,
                 (
-                  told rests well-rests _ _ _ _ _ refl,
+                  told rests (well-idle someZeros) _ _ _ _ _ refl,
                   (
-                    told rests well-rests _ _ _ _ _ refl,
+                    told rests (well-idle someZeros) _ _ _ _ _ refl,
                     (
-                      told rests well-rests _ _ _ _ _ refl,
+                      told rests (well-idle someZeros) _ _ _ _ _ refl,
                       (
-                        told runs well-runs _ _ _ _ _ refl,
+                        told runs (well-called someZeros) _ _ _ _ _ refl,
                         (
-                          told runs well-runs _ _ _ _ _ refl,
+                          told runs (well-called someZeros) _ _ _ _ _ refl,
                           (
-                            told runs well-runs _ _ _ _ _ refl,
+                            told runs (well-called someZeros) _ _ _ _ _ refl,
                             (
-                              told runs well-runs _ _ _ _ _ refl,
+                              told runs (well-called someZeros) _ _ _ _ _ refl,
                               (
-                                told rests well-rests _ _ _ _ _ refl,
+                                told rests (well-idle someZeros) _ _ _ _ _ refl,
                                 (
-                                  told rests well-rests _ _ _ _ _ refl,
+                                  told rests (well-idle someZeros) _ _ _ _ _ refl,
                                   (
                                     told full well-full _ _ _ _ _ refl,
                                     (
-                                      told rests well-rests _ _ _ _ _ refl,
+                                      told rests (well-idle someZeros) _ _ _ _ _ refl,
                                       (
-                                        told rests well-rests _ _ _ _ _ refl,
+                                        told rests (well-idle someZeros) _ _ _ _ _ refl,
                                         (
-                                          told rests well-rests _ _ _ _ _ refl,
+                                          told rests (well-idle someZeros) _ _ _ _ _ refl,
                                           (
-                                            told rests well-rests _ _ _ _ _ refl,
+                                            told rests (well-idle someZeros) _ _ _ _ _ refl,
                                             (
-                                              told rests well-rests _ _ _ _ _ refl,
+                                              told rests (well-idle someZeros) _ _ _ _ _ refl,
                                               (
-                                                told rests well-rests _ _ _ _ _ refl,
+                                                told rests (well-idle someZeros) _ _ _ _ _ refl,
                                                 (
-                                                  told runs well-runs _ _ _ _ _ refl,
+                                                  told runs (well-called someZeros) _ _ _ _ _ refl,
                                                   (
-                                                    told runs well-runs _ _ _ _ _ refl,
+                                                    told runs (well-called someZeros) _ _ _ _ _ refl,
                                                     (
-                                                      told runs well-runs _ _ _ _ _ refl,
+                                                      told runs (well-called someZeros) _ _ _ _ _ refl,
                                                       tt,
                                                     ),
                                                   ),

@@ -1,1 +1,3 @@
+pub mod Wells
 pub mod Computed
+pub mod Ran

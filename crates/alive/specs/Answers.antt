@@ -4,15 +4,17 @@ use mathlib.Core.List.{List, [], _∷_}
 use Rattle.geometry.specs.Geometry.{pageSize}
 use Rattle.memory.specs.declared.Source.the-variants.{Payload, Memory}
 use Rattle.manifest.specs.declared.Reading.{Reading}
+use Rattle.manifest.specs.Reader.{readManifest}
+use Rattle.round.specs.Examples.{long}
 use Rattle.state.specs.declared.State.{State}
 use Rattle.state.specs.Zero.{zeroState}
 use Rattle.events.specs.declared.Event.{Event}
 use Rattle.events.specs.declared.Event.the-variants.{Register, Unregister, Call, Return, Jump, Read, Write, DeviceRead, DeviceWrite, Extend, PcrRead}
 use Rattle.events.specs.declared.Answer.{Answer}
 use Rattle.events.specs.declared.Answer.the-variants.{Done, Slot, Entered, Left, Terminated, Filled, Refused}
-use Rattle.alive.specs.Rows.{Row, answer}
+use Rattle.alive.specs.Rows.{answered, Row}
 use Rattle.alive.specs.States.{fresh, fieldsFrom, idle, called, someZeros, full}
-use Rattle.alive.specs.Examples.{answered, unread}
+use Rattle.alive.specs.Examples.{unread}
 
 -- a manifest that names page p for code and the next for param
 abbrev pub manifestFrom : ℕ → Reading
@@ -20,10 +22,10 @@ manifestFrom p = record { refusal = 0; fields = fieldsFrom p }
 
 -- on a state, with a buffer of a page and a payload of 4 bytes
 abbrev pub on : State → Event → Answer → Row
-on s e a = record { example = 0; computed = answer (answered s pageSize 4 unread e); claimed = answer a }
+on s e a = record { gives = answered s pageSize 4 unread e; says = a }
 
 abbrev pub registers : State → Reading → Answer → Row
-registers s x a = record { example = 0; computed = answer (answered s pageSize 40 x (Register 7)); claimed = answer a }
+registers s x a = record { gives = answered s pageSize 40 x (Register 7); says = a }
 
 abbrev pub rests : State
 rests = idle someZeros
@@ -33,7 +35,8 @@ runs = called someZeros
 
 unfoldable pub accepted : List Row
 accepted =
-    registers fresh (manifestFrom 2) (Slot 0)
+    registers fresh (readManifest long) (Slot 0)
+    ∷ registers fresh (manifestFrom 2) (Slot 0)
     ∷ registers rests (manifestFrom 4) (Slot 1)
     ∷ on rests (Unregister 7 0) Done
     ∷ on rests (Call 7 8192 100 200) (Entered 0)
@@ -58,7 +61,7 @@ accepted =
 
 -- with room for n bytes
 abbrev pub onRoom : State → ℕ → Event → Answer → Row
-onRoom s n e a = record { example = 0; computed = answer (answered s n 4 unread e); claimed = answer a }
+onRoom s n e a = record { gives = answered s n 4 unread e; says = a }
 
 unfoldable pub refused : List Row
 refused =

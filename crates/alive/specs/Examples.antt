@@ -1,39 +1,64 @@
--- "Proved examples. P=8, M=1." One table under one claim.
-use Prim.Native.Nat.{ℕ, _*_}
-use mathlib.Core.List.{List, [], _∷_}
+-- Document 01's "Proved examples", E1 to E12: one table under one claim, that in every entry the definitions give what the document says.
+use Prim.Native.Nat.{ℕ}
+use mathlib.Core.List.{List, [], _∷_, _++_}
 use Rattle.geometry.specs.Geometry.{pageSize}
 use Rattle.fields.specs.Fields.{zeroFields}
 use Rattle.manifest.specs.declared.Reading.{Reading}
-use Rattle.state.specs.declared.State.{State}
-use Rattle.state.specs.Face.{faceOf}
-use Rattle.wellformed.specs.WellFormed.{wellFormed}
-use Rattle.events.specs.declared.Event.{Event}
+use Rattle.round.specs.Examples.{Example, manifestExamples}
+use Rattle.state.specs.Face.{Face, faceOf}
+use Rattle.start.specs.Start.{startOf}
+use Rattle.devicemap.specs.Map.{mapOf}
+use Rattle.devicemap.specs.Promise.{given}
 use Rattle.events.specs.declared.Event.the-variants.{Read}
 use Rattle.events.specs.declared.Answer.{Answer}
-use Rattle.events.specs.declared.Answer.the-variants.{Filled, Refused}
-use Rattle.rules.specs.Decide.{decide}
-use Rattle.alive.specs.Rows.{Row, answer}
+use Rattle.events.specs.Answers.{toldBy}
+use Rattle.alive.specs.Rows.{answered}
 use Rattle.alive.specs.States.{fresh}
 
--- what the rules answer on a state with its memory: room bytes in the buffer, size bytes of payload and what was read from it
-unfoldable pub answered : State → ℕ → ℕ → Reading → Event → Answer
-answered s room size x e = decide (faceOf s) (wellFormed s (s .pages * pageSize)) room size x e .answer
+-- ---- E7 to E9: "fresh device map 80 (hex)", "with pages 2 and 3 owned, 8C", "P=2, M=1: FE"
+
+abbrev pub maps : Face → ℕ → Example
+maps f byte = record { gives = mapOf f; says = byte ∷ [] }
+
+unfoldable pub mapExamples : List Example
+mapExamples =
+    maps (faceOf fresh) 0x80
+    ∷ maps (given (given (faceOf fresh) 2) 3) 0x8c
+    ∷ maps (faceOf (startOf 2 1 .state)) 0xfe
+    ∷ []
+
+-- ---- E10 to E12, reads on a fresh machine
+
+-- an answer's number and values
+abbrev pub numbersOf : Answer → List ℕ
+numbersOf a = toldBy a .number ∷ toldBy a .values
 
 abbrev pub unread : Reading
 unread = record { refusal = 3; fields = zeroFields }
 
--- on a fresh machine, with a buffer of a page and no payload
-abbrev pub freshly : ℕ → Event → Answer → Row
-freshly k e a = record { example = k; computed = answer (answered fresh pageSize 0 unread e); claimed = answer a }
+-- n bytes at a, with a buffer of a page and no payload
+abbrev pub read : ℕ → ℕ → List ℕ → Example
+read a n says = record { gives = numbersOf (answered fresh pageSize 0 unread (Read a n)); says = says }
 
--- "E10: fresh, legacy read of 1 at 4095 accepted, of 2 there 4. E11: 4,096 at 0 accepted, 0 or 4,097 there 4. E12: 1 at 32767 is 5, at 32768 is 4."
-unfoldable pub examples : List Row
-examples =
-    freshly 10 (Read 4095 1) (Filled 1)
-    ∷ freshly 10 (Read 4095 2) (Refused 4)
-    ∷ freshly 11 (Read 0 4096) (Filled 4096)
-    ∷ freshly 11 (Read 0 0) (Refused 4)
-    ∷ freshly 11 (Read 0 4097) (Refused 4)
-    ∷ freshly 12 (Read 32767 1) (Refused 5)
-    ∷ freshly 12 (Read 32768 1) (Refused 4)
+abbrev pub accepts : ℕ → List ℕ
+accepts n = 0 ∷ n ∷ []
+
+abbrev pub refuses : ℕ → List ℕ
+refuses r = r ∷ []
+
+unfoldable pub readExamples : List Example
+readExamples =
+    -- E10: "fresh, legacy read of 1 at 4095 accepted, of 2 there 4"
+    read 4095 1 (accepts 1)
+    ∷ read 4095 2 (refuses 4)
+    -- E11: "4,096 at 0 accepted, 0 or 4,097 there 4"
+    ∷ read 0 4096 (accepts 4096)
+    ∷ read 0 0 (refuses 4)
+    ∷ read 0 4097 (refuses 4)
+    -- E12: "1 at 32767 is 5, at 32768 is 4"
+    ∷ read 32767 1 (refuses 5)
+    ∷ read 32768 1 (refuses 4)
     ∷ []
+
+unfoldable pub examples : List Example
+examples = manifestExamples ++ (mapExamples ++ readExamples)

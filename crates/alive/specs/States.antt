@@ -1,12 +1,12 @@
 -- States to try the rules on.
 use Prim.Native.Nat.{ℕ, _+_, _*_}
 use mathlib.Core.Bool.{true}
-use mathlib.Core.List.{List, [], _∷_, _++_}
+use mathlib.Core.List.{List, [], _∷_}
 use lib.ListN.{replicate}
 use Rattle.lists.specs.Below.{table}
-use Rattle.geometry.specs.Geometry.{slotCount, pcrCount, mostPages}
+use Rattle.geometry.specs.Geometry.{slotCount, pcrCount}
 use Rattle.fields.specs.declared.Fields.{Fields}
-use Rattle.fields.specs.Fields.{entryPlaces, noRun, noEntry}
+use Rattle.fields.specs.Fields.{noRun, noEntry}
 use Rattle.sha1.specs.declared.Digest.{Digest}
 use Rattle.state.specs.declared.Mode.{Mode}
 use Rattle.state.specs.declared.Mode.the-variants.{Legacy, Secure}
@@ -14,10 +14,11 @@ use Rattle.state.specs.declared.Running.{Running}
 use Rattle.state.specs.declared.Slot.{Slot}
 use Rattle.state.specs.declared.State.{State}
 use Rattle.state.specs.Zero.{zeroSlot, zeroRunning, zeroPcr}
+use Rattle.start.specs.Start.{startOf}
 
--- P=8, M=1, all slots free
-unfoldable pub fresh : State
-fresh = record { pages = 8; kept = 1; owner = replicate 7 0 ++ (255 ∷ replicate 1016 0); slots = replicate slotCount zeroSlot; mode = Legacy; running = zeroRunning }
+-- P=8, M=1, as start gives it
+abbrev pub fresh : State
+fresh = startOf 8 1 .state
 
 -- a page of code, the next page param, and one entry at the code's start: 4 bytes in, 4 out
 unfoldable pub fieldsFrom : ℕ → Fields

@@ -1,11 +1,15 @@
-// No code: answers computed from the rules, each table a promise. A monitor that refuses all would keep every other theorem.
+// No code: what the rules give, computed, each table a promise. A monitor that refuses all would keep every other theorem.
+ghost use mathlib.Core.Path.{_≡_};
+ghost use mathlib.Core.Bool.{true};
+ghost use Rattle.round.specs.Examples.{allRight};
 ghost use Rattle.alive.specs.Rows.{Holds};
 ghost use Rattle.alive.specs.Examples.{examples};
 ghost use Rattle.alive.specs.Answers.{accepted, refused};
+ghost use Rattle.alive.specs.Trace.{TwoWorlds};
 
-// Document 01's proved examples, one table under one claim.
+// E1 to E12, one table under one claim.
 pub fn examples_hold()
-    ensures { λ _. ⌜ Holds examples ⌝ }
+    ensures { λ _. ⌜ allRight examples ≡ true ⌝ }
 {}
 
 // Each of the eleven events is accepted, with slots registered.
@@ -16,4 +20,9 @@ pub fn events_accepted()
 // Each number from 1 to 10 is given.
 pub fn refusals_given()
     ensures { λ _. ⌜ Holds refused ⌝ }
+{}
+
+// Two worlds that differ as isolation lets them go through a trace in which every event is accepted.
+pub fn two_worlds()
+    ensures { λ _. ⌜ TwoWorlds ⌝ }
 {}

@@ -19,10 +19,11 @@ fn shut(owner: &[u8; 1024], pages: usize, p: usize) -> u8
     requires { ⌜ pages ≤ mostPages ⌝ }
     ensures { λ r. ⌜ (r ≡ shutIn (now (owner .entry)) pages p) × (r ≤ 1) ⌝ }
 {
-    if p < pages {
-        if owner[p] == 0 {
-            return 0;
-        }
+    if pages <= p {
+        return 1;
+    }
+    if owner[p] == 0 {
+        return 0;
     }
     1
 }

@@ -31,7 +31,7 @@ fn known_kind(kind: u8) -> bool
     }
 }
 
-fn run_end(x: Run) -> usize
+pub fn run_end(x: Run) -> usize
     ensures { λ n. ⌜ (n ≡ endOf x) × (n < 8589934592) ⌝ }
 {
     x.first as usize + x.count as usize
@@ -150,7 +150,7 @@ fn code_holds(x: Run, page: usize) -> bool
     (x.kind == 1) & ((x.first as usize <= page) & (page < end))
 }
 
-fn in_code(r: usize, runs: [Run; 4], page: usize) -> bool
+pub fn in_code(r: usize, runs: [Run; 4], page: usize) -> bool
     requires { ⌜ r ≤ 4 ⌝ }
     ensures { λ b. ⌜ b ≡ inCode (fieldsOf r 0 runs []) page ⌝ }
 {

@@ -1,11 +1,11 @@
 -- An accepted answer fills the first n bytes of the buffer.
-use Prim.Native.Nat.{ℕ, _+_, _*_, _/_, _%_, _≤_, _<_}
+use Prim.Native.Nat.{ℕ, _+_, _%_, _≤_, _<_}
 use native.Mathlib.Omega.{arith}
 use native.Mathlib.Nat.{div-add-mod'}
-use mathlib.Core.Path.{_≡_, refl, sym, ap, _∙_}
-use mathlib.Core.Bool.{true, false, _&&_}
+use mathlib.Core.Path.{_≡_, refl, ap, _∙_}
+use mathlib.Core.Bool.{true}
 use mathlib.Core.List.{List, [], _++_}
-use lib.Dec.{leb, ltb}
+use lib.Dec.{leb}
 use lib.ListN.{length, getD, drop}
 use lib.Seq.{sets, sets-eq}
 use borrow.Author.Tests.{leb-true, ltb-true}
@@ -19,17 +19,16 @@ use Rattle.state.specs.declared.Mode.{Mode}
 use Rattle.state.specs.declared.Mode.the-variants.{Legacy, Secure}
 use Rattle.state.specs.declared.State.{State}
 use Rattle.state.specs.Zero.{noPcr, noSlot}
-use Rattle.state.specs.Face.{Face, faceOf, pcrsOf}
+use Rattle.state.specs.Face.{faceOf, pcrsOf}
 use Rattle.state.proofs.Shape.{StateShape, DigestShape, each-in, slot-in}
 use Rattle.state.proofs.Faces.{pcrs-at}
 use Rattle.wellformed.specs.WellFormed.{wellFormed, modeRight}
-use Rattle.wellformed.proofs.Facts.{Right, right-of}
-use Rattle.wellformed.proofs.Runs.{Runs, secure-hold}
+use Rattle.wellformed.proofs.Facts.{right-of}
+use Rattle.wellformed.proofs.Runs.{secure-hold}
 use Rattle.wellformed.proofs.States.{well-state, well-long, state-face}
 use Rattle.events.specs.declared.Event.{Event}
 use Rattle.events.specs.declared.Event.the-variants.{Register, Unregister, Call, Return, Jump, Read, Write, DeviceRead, DeviceWrite, Extend, PcrRead}
-use Rattle.events.specs.Answers.{toldBy}
-use Rattle.rules.specs.Plan.{Plan, refuse}
+use Rattle.rules.specs.Plan.{Plan}
 use Rattle.rules.specs.Act.{fetched, act, planOf, step}
 use Rattle.kept.specs.Buffers.{asked, wanted, Fills, AnswersFill}
 use Rattle.kept.proofs.Outcome.{fetchFor, Had, Outcome, refused, accepted, Accepts, passed}

@@ -1,4 +1,3 @@
 pub mod Outcome
 pub mod Refused
 pub mod Filled
-pub mod Measured

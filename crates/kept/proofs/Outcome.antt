@@ -2,8 +2,7 @@
 use Prim.Native.Nat.{ℕ, _≤_, _<_}
 use native.Mathlib.Omega.{arith}
 use mathlib.Core.Path.{_≡_, refl}
-use mathlib.Core.Bool.{Bool, true, false, _&&_, false≢true}
-use lib.Dec.{leb, ltb}
+use mathlib.Core.Bool.{Bool, true, false}
 use borrow.Author.Tests.{leb-true, ltb-true}
 use Rattle.lists.specs.Below.{pick}
 use Rattle.geometry.specs.Geometry.{pcrCount, isRange, digestSize, pageOf}
@@ -18,7 +17,7 @@ use Rattle.events.specs.declared.Event.the-variants.{Register, Unregister, Call
 use Rattle.events.specs.declared.Answer.{Answer}
 use Rattle.events.specs.declared.Answer.the-variants as answer
 use Rattle.events.specs.Answers.{toldBy, fills}
-use Rattle.rules.specs.Plan.{Fetch, nothing, bytes, pcr, Store, keep, Seal, same, Plan, refuse, guard, still}
+use Rattle.rules.specs.Plan.{Fetch, nothing, bytes, pcr, keep, same, Plan, refuse, guard, still}
 use Rattle.rules.specs.Tests.{Access, execute, mayReach}
 use Rattle.rules.specs.Decide.{released, registered, registerRule, unregisterRule, entered, callEntry, callRule, returnRule, jumpLegacy, jumpSecure, readRule, writeRule, extendRule, pcrRule, legacyOnly, secureOnly, byMode, ruleIn, decide}
 use Rattle.kept.specs.Buffers.{asked}

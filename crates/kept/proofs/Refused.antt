@@ -1,11 +1,10 @@
 -- Refusals keep all, and have document 01's numbers.
 use Prim.Native.Nat.{ℕ, _≤_}
 use native.Mathlib.Omega.{arith}
-use mathlib.Core.Path.{_≡_, refl, sym, ap, _∙_}
+use mathlib.Core.Path.{_≡_, refl}
 use mathlib.Core.Logic.{_≢_}
 use mathlib.Core.List.{List}
 use lib.ListN.{length}
-use Rattle.geometry.specs.Geometry.{slotCount}
 use Rattle.manifest.specs.Reader.{readManifest}
 use Rattle.state.specs.declared.Mode.{Mode}
 use Rattle.state.specs.declared.State.{State}
@@ -13,11 +12,10 @@ use Rattle.state.specs.Face.{Face, faceOf, pcrsOf}
 use Rattle.state.proofs.Faces.{state-back}
 use Rattle.wellformed.specs.WellFormed.{wellFormed}
 use Rattle.events.specs.declared.Event.{Event}
-use Rattle.events.specs.declared.Answer.{Answer}
 use Rattle.events.specs.declared.Answer.the-variants as answer
 use Rattle.events.specs.Answers.{toldBy}
-use Rattle.rules.specs.Plan.{Plan, refuse}
-use Rattle.rules.specs.Act.{Out, act, planOf, step}
+use Rattle.rules.specs.Plan.{Plan}
+use Rattle.rules.specs.Act.{act, planOf, step}
 use Rattle.kept.specs.Refusals.{AsGiven, RefusalsKeep, RefusalsNamed}
 use Rattle.kept.proofs.Outcome.{Outcome, refused, accepted, Accepts, accepts-zero, outcome}
 

@@ -1,3 +1,2 @@
 pub mod Refusals
 pub mod Buffers
-pub mod Measures

@@ -1,7 +1,6 @@
 // No code: theorems about the rules, each a promise, so that none can go unnoticed.
 ghost use Rattle.kept.specs.Refusals.{RefusalsKeep, RefusalsNamed};
 ghost use Rattle.kept.specs.Buffers.{AnswersFill};
-ghost use Rattle.kept.specs.Measures.{PcrsRight};
 
 // A refusal gives back the state, the memory and the buffer as they came.
 pub fn refusals_keep()
@@ -16,9 +15,4 @@ pub fn refusals_named()
 // An accepted answer of n bytes fills the first n bytes of the buffer and no others; n is the rule's.
 pub fn answers_fill()
     ensures { λ _. ⌜ AnswersFill ⌝ }
-{}
-
-// A fresh codeblock's µPCRs, and an extended one, byte by byte.
-pub fn pcrs_right()
-    ensures { λ _. ⌜ PcrsRight ⌝ }
 {}

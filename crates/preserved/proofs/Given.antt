@@ -1,17 +1,14 @@
 -- The face with one card set and that card's pages given: what stands at each slot and at each page.
-use Prim.Native.Nat.{ℕ, _≤_, _<_}
-use native.Mathlib.Omega.{arith}
-use mathlib.Core.Path.{_≡_, refl, sym, ap, _∙_}
+use Prim.Native.Nat.{ℕ, _<_}
+use mathlib.Core.Path.{_≡_, _∙_}
 use mathlib.Core.Logic.{_≢_}
-use mathlib.Core.Bool.{Bool, true, false, _||_, not, false≢true}
-use mathlib.Core.List.{List}
-use lib.ListN.{length, getD, set}
+use mathlib.Core.Bool.{true, false}
+use lib.ListN.{length}
 use lib.Seq.{getD-set-same, getD-set-other}
-use Rattle.lists.specs.Below.{pick, table}
 use Rattle.lists.proofs.Tables.{table-at}
 use Rattle.lists.proofs.All.{all-at}
-use Rattle.lists.proofs.Logic.{or-cases, pick-true, pick-false, decided}
-use Rattle.geometry.specs.Geometry.{mostPages, slotCount}
+use Rattle.lists.proofs.Logic.{pick-true, pick-false}
+use Rattle.geometry.specs.Geometry.{mostPages}
 use Rattle.fields.specs.declared.Fields.{Fields}
 use Rattle.fields.specs.Pages.{hasPage}
 use Rattle.state.specs.declared.Card.{Card}

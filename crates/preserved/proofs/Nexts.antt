@@ -1,26 +1,22 @@
 -- The face after a registration, a release, a call and a return is right.
-use Prim.Native.Nat.{ℕ, zero, suc, _+_, _-_, _≤_, _<_}
+use Prim.Native.Nat.{ℕ, _+_, _-_, _≤_, _<_}
 use native.Mathlib.Omega.{arith}
-use native.Mathlib.Decide.{ℕ-discrete}
-use mathlib.Core.Path.{_≡_, refl, sym, ap, subst, _∙_}
-use mathlib.Core.Logic.{_≢_, ⊎-elim}
-use mathlib.Core.Bool.{Bool, true, false, _&&_, _||_, not, false≢true}
-use mathlib.Core.List.{List}
-use lib.ListN.{length, getD, set}
-use lib.Dec.{leb, ltb, eqb}
-use borrow.Author.Tests.{ltb-true, eqb-true, eqb-false, eq-eqb, le-leb}
-use Rattle.lists.specs.Below.{pick, any-below, all-below}
+use mathlib.Core.Path.{_≡_, refl, sym, subst, _∙_}
+use mathlib.Core.Logic.{_≢_}
+use mathlib.Core.Bool.{true, false, false≢true}
+use lib.ListN.{length}
+use lib.Dec.{ltb, eqb}
+use borrow.Author.Tests.{eqb-true, eqb-false, eq-eqb, le-leb}
 use Rattle.lists.proofs.All.{all-of}
 use Rattle.lists.proofs.Any.{any-hit}
-use Rattle.lists.proofs.Logic.{and-l, and-r, both, decided, or-cases}
+use Rattle.lists.proofs.Logic.{and-r, decided}
 use Rattle.geometry.specs.Geometry.{mostPages, slotCount, isRange, pageOf}
 use Rattle.fields.specs.declared.Fields.{Fields}
-use Rattle.fields.specs.declared.Entry.{Entry}
 use Rattle.fields.specs.Fields.{zeroFields, runAt, entryAt, endOf}
 use Rattle.fields.specs.Rules.{keepsRules}
 use Rattle.fields.specs.Pages.{hasPage, pagesUnder, underAt}
 use Rattle.fields.specs.Pages as pages
-use Rattle.fields.proofs.Facts.{Kept, kept}
+use Rattle.fields.proofs.Facts.{kept}
 use Rattle.fields.proofs.PageLaws.{holds-of, page-small}
 use Rattle.state.specs.declared.Card.{Card}
 use Rattle.state.specs.declared.Mode.{Mode}
@@ -30,17 +26,11 @@ use Rattle.state.specs.Zero.{zeroCard, zeroRunning}
 use Rattle.state.specs.Face.{Face, cardAt, ownerAt, topOf, isOpen}
 use Rattle.wellformed.specs.WellFormed.{cardRight, holdsAt, outputAt, outRight, modeRight}
 use Rattle.wellformed.proofs.Facts.{Right, card-used, card-free, zero-holds, held-under, held-sole, open-under}
-use Rattle.wellformed.proofs.Runs.{Runs, secure-of, out-of-none, out-of-range}
+use Rattle.wellformed.proofs.Runs.{secure-of, out-of-none, out-of-range}
 use Rattle.wellformed.proofs.Zeros.{zero-card-right, zero-card}
+use Rattle.rules.proofs.Facts.{byEq}
 use Rattle.rules.specs.Tests.{allOpen, unlooked, keptAs, withCard, withMode}
 use Rattle.preserved.proofs.Given.{card-there, card-else, owner-there, owner-else, open-named}
-
-pub byEq : {A : Type 0} (j k : ℕ) → (j ≡ k → A) → (j ≢ k → A) → A
-byEq {A} j k t e = go (ℕ-discrete j k)
-  where
-    go : Dec (j ≡ k) → A
-    go (yes q) = t q
-    go (no q) = e q
 
 -- another mode and record: all else is as it was
 pub right-mode : (f : Face) → Right f → (m : Mode) (x : Running) → modeRight (withMode f m x) m ≡ true → Right (withMode f m x)

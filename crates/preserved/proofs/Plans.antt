@@ -1,14 +1,13 @@
 -- The plan of every rule keeps what well-formedness asks: of the face, and of free slots' µPCRs.
-use Prim.Native.Nat.{ℕ, _+_, _≤_, _<_}
+use Prim.Native.Nat.{ℕ, _+_, _<_}
 use native.Mathlib.Omega.{arith}
-use native.Mathlib.Decide.{ℕ-discrete}
 use mathlib.Core.Path.{_≡_, refl, sym, ap, subst, _∙_}
 use mathlib.Core.Logic.{_≢_}
-use mathlib.Core.Bool.{Bool, true, false, _&&_, _||_, not, false≢true}
+use mathlib.Core.Bool.{Bool, true, false, false≢true}
 use mathlib.Core.List.{List, []}
-use lib.ListN.{length, getD, set, length-set}
+use lib.ListN.{length, set, length-set}
 use lib.Seq.{getD-set-same, getD-set-other}
-use lib.Dec.{leb, ltb, eqb}
+use lib.Dec.{ltb}
 use borrow.Author.Tests.{ltb-true, eqb-true}
 use Rattle.lists.specs.Below.{pick}
 use Rattle.lists.proofs.First.{first-at}
@@ -33,11 +32,12 @@ use Rattle.events.specs.declared.Event.the-variants.{Register, Unregister, Call
 use Rattle.events.specs.declared.Answer.{Answer}
 use Rattle.events.specs.declared.Answer.the-variants as answer
 use Rattle.rules.specs.Plan.{Fetch, nothing, Store, keep, Seal, same, clear, extend, measure, Plan, refuse, guard, still}
-use Rattle.rules.specs.Tests.{Access, execute, mayReach, entryOf, underMark, callableAt, slotFor, freeAt, freeSlot, allOpen, withCard}
-use Rattle.rules.specs.Decide.{released, registered, registerRule, unregisterRule, entered, callEntry, callRule, entryFor, returnRule, jumpLegacy, jumpSecure, readRule, writeRule, extendRule, pcrRule, legacyOnly, secureOnly, byMode, ruleIn, decide}
+use Rattle.rules.specs.Tests.{Access, execute, mayReach, entryOf, underMark, callableAt, slotFor, freeAt, freeSlot, withCard}
+use Rattle.rules.specs.Decide.{released, registered, registerRule, unregisterRule, entered, callEntry, callRule, returnRule, jumpLegacy, jumpSecure, readRule, writeRule, extendRule, pcrRule, legacyOnly, secureOnly, byMode, ruleIn, decide}
 use Rattle.rules.specs.Act.{zeroPcrs, sealed}
+use Rattle.rules.proofs.Facts.{byEq, not-is}
 use Rattle.preserved.proofs.Given.{card-there, card-else}
-use Rattle.preserved.proofs.Nexts.{byEq, right-registered, right-freed, right-left, right-entered}
+use Rattle.preserved.proofs.Nexts.{right-registered, right-freed, right-left, right-entered}
 
 -- slot k is registered in both faces, or in neither
 abbrev Alike : Face → Face → ℕ → Type 0
@@ -53,8 +53,11 @@ Fits f g (measure k pages) = (cardAt g k .registered ≡ true) × ((j : ℕ) →
 pub record Good (f : Face) (p : Plan) : Type 0 where
   pub right : Right (p .next)
   pub pages : p .next .pages ≡ f .pages
+  pub kept : p .next .kept ≡ f .kept
   pub long : length (p .next .cards) ≡ length (f .cards)
   pub seals : Fits f (p .next) (p .seal)
+  -- a slot that stays registered keeps its card
+  pub cards : (j : ℕ) → cardAt f j .registered ≡ true → cardAt (p .next) j .registered ≡ true → cardAt (p .next) j ≡ cardAt f j
 
 -- ---- the µPCRs of free slots stay zero
 
@@ -80,15 +83,11 @@ seal-long (clear k) payload m pcrs = length-set pcrs k zeroPcrs
 seal-long (extend k i source a n) payload m pcrs = length-set pcrs k _
 seal-long (measure k pages) payload m pcrs = length-set pcrs k _
 
-not-true : (b : Bool) → not b ≡ true → b ≡ false
-not-true true h = sym h
-not-true false h = refl
-
 -- ---- the rules
 
 module _ (f : Face) (r : Right f) (eight : length (f .cards) ≡ slotCount) where
   refuse-good : (n : ℕ) → Good f (refuse n f)
-  refuse-good n = record { right = r; pages = refl; long = refl; seals = λ k. refl }
+  refuse-good n = record { right = r; pages = refl; kept = refl; long = refl; seals = λ k. refl; cards = λ j u v. refl }
 
   guard-good : (t : Bool) (n : ℕ) (p : Plan) → (t ≡ true → Good f p) → Good f (guard t n f p)
   unfolding guard
@@ -96,7 +95,7 @@ module _ (f : Face) (r : Right f) (eight : length (f .cards) ≡ slotCount) wher
   guard-good false n p h = refuse-good n
 
   still-good : (x : Fetch) (y : Store) (z : Seal) (a : Answer) → Fits f f z → Good f (still f x y z a)
-  still-good x y z a h = record { right = r; pages = refl; long = refl; seals = h }
+  still-good x y z a h = record { right = r; pages = refl; kept = refl; long = refl; seals = h; cards = λ j u v. refl }
 
   register-good : (mark : ℕ) (x : Reading) → (x .refusal ≡ 0 → keepsRules (x .fields) ≡ true) → f .mode ≡ Legacy → Good f (registerRule f mark x)
   unfolding registerRule registered freeSlot withCard
@@ -105,11 +104,14 @@ module _ (f : Face) (r : Right f) (eight : length (f .cards) ≡ slotCount) wher
       let k = freeSlot f in
       let l : k < slotCount = ltb-true k slotCount c in
       let new : Card = record { registered = true; mark = mark; fields = x .fields } in
+      let spare : cardAt f k .registered ≡ false = not-is (cardAt f k .registered) (first-at (freeAt f) slotCount l) in
       record {
-        right = right-registered f r k mark (x .fields) (rules (eqb-true (x .refusal) 0 a)) b l eight (not-true (cardAt f k .registered) (first-at (freeAt f) slotCount l)) e;
+        right = right-registered f r k mark (x .fields) (rules (eqb-true (x .refusal) 0 a)) b l eight spare e;
         pages = refl;
+        kept = refl;
         long = length-set (f .cards) k new;
         seals = (ap (λ (y : Card). y .registered) (card-there f k new (x .fields) (k + 1) (omega arith)), λ j q. ap (λ (y : Card). y .registered) (card-else f k new (x .fields) (k + 1) j q));
+        cards = λ j u v. card-else f k new (x .fields) (k + 1) j (λ q. false≢true (sym spare ∙ rw q at u));
       }
 
   released-good : (k : ℕ) (a : Answer) → k < slotCount → Good f (released f k a)
@@ -118,8 +120,10 @@ module _ (f : Face) (r : Right f) (eight : length (f .cards) ≡ slotCount) wher
       record {
         right = right-freed f r k l eight;
         pages = refl;
+        kept = refl;
         long = length-set (f .cards) k zeroCard;
         seals = λ j q. ap (λ (y : Card). y .registered) (card-else f k zeroCard (cardAt f k .fields) 0 j q);
+        cards = λ j u v. card-else f k zeroCard (cardAt f k .fields) 0 j (λ q. false≢true (sym (ap (λ (y : Card). y .registered) (card-there f k zeroCard (cardAt f k .fields) 0 (omega arith))) ∙ rw q at v));
       }
 
   unregister-good : (mark k : ℕ) → Good f (unregisterRule f mark k)
@@ -135,11 +139,11 @@ module _ (f : Face) (r : Right f) (eight : length (f .cards) ≡ slotCount) wher
       let t = first-at (callableAt f mark a) slotCount l in
       let u = and-l (cardAt f k .registered) _ (and-l (underMark (cardAt f k) mark) _ t) in
       let v = ltb-true _ _ (and-r (underMark (cardAt f k) mark) _ t) in
-      record { right = right-entered f r k (entryOf (cardAt f k .fields) a) o l u v c g; pages = refl; long = refl; seals = λ j. refl }
+      record { right = right-entered f r k (entryOf (cardAt f k .fields) a) o l u v c g; pages = refl; kept = refl; long = refl; seals = λ j. refl; cards = λ j u v. refl }
 
   return-good : (k : ℕ) → Good f (returnRule f k)
   unfolding returnRule
-  return-good k = record { right = right-left f r; pages = refl; long = refl; seals = λ j. refl }
+  return-good k = record { right = right-left f r; pages = refl; kept = refl; long = refl; seals = λ j. refl; cards = λ j u v. refl }
 
   jump-good : (a : ℕ) → Good f (jumpLegacy f a)
   unfolding jumpLegacy

@@ -1,15 +1,14 @@
 -- Every step keeps well-formedness, and so does every list of events.
-use Prim.Native.Nat.{ℕ, _*_}
+use Prim.Native.Nat.{ℕ}
 use mathlib.Core.Path.{_≡_, refl, sym, ap, subst, _∙_}
-use mathlib.Core.Bool.{Bool, true, false, _&&_, false≢true}
-use mathlib.Core.List.{List, [], _∷_, map}
-use lib.Dec.{eqb}
+use mathlib.Core.Bool.{Bool, true, false}
+use mathlib.Core.List.{List, [], _∷_}
 use lib.ListN.{length, length-map}
 use lib.Seq.{length-sets}
 use native.Mathlib.Omega.{arith}
 use Rattle.lists.specs.Below.{pick, all-below}
 use Rattle.lists.specs.Bytes.{part}
-use Rattle.lists.proofs.Logic.{and-r, decided}
+use Rattle.lists.proofs.Logic.{and-r}
 use Rattle.lists.proofs.Pages.{wipe-long}
 use Rattle.lists.proofs.Tables.{table-long}
 use Rattle.geometry.specs.Geometry.{pageSize, slotCount, startOf}
@@ -24,8 +23,8 @@ use Rattle.wellformed.proofs.Facts.{Right, right-of, of-right}
 use Rattle.wellformed.proofs.States.{state-face, state-pcrs, of-state, well-state, well-long, of-well}
 use Rattle.events.specs.declared.Event.{Event}
 use Rattle.rules.specs.Plan.{Store, keep, put, move, clean, Plan}
-use Rattle.rules.specs.Act.{World, Out, sealed, stored, act, planOf, step}
-use Rattle.preserved.specs.Preserved.{Well, Ask, afterOne, after, StaysWellFormed}
+use Rattle.rules.specs.Act.{sealed, stored, act, planOf, step}
+use Rattle.preserved.specs.Preserved.{Well, afterOne, StaysWellFormed}
 use Rattle.preserved.proofs.Plans.{Good, seal-right, seal-long, decide-good}
 
 -- what the reader accepts keeps the rules
@@ -45,10 +44,10 @@ stored-long (move a b n) payload m = length-sets m b (part m a n)
 stored-long (clean pages) payload m = wipe-long pageSize pages m
 
 module _ (s : State) (m : List ℕ) (w : Well s m) where
-  face-right : Right (faceOf s)
+  pub face-right : Right (faceOf s)
   face-right = right-of (faceOf s) (state-face s (well-state s (length m) (w .right)))
 
-  eight-cards : length (faceOf s .cards) ≡ slotCount
+  pub eight-cards : length (faceOf s .cards) ≡ slotCount
   eight-cards = length-map (s .slots) cardOf ∙ w .eight
 
   eight-pcrs : length (pcrsOf s) ≡ slotCount
@@ -67,11 +66,24 @@ module _ (s : State) (m : List ℕ) (w : Well s m) where
       let n : length (stored (p .store) payload m) ≡ startOf (t .pages) = stored-long (p .store) payload m ∙ well-long s (length m) (w .right) ∙ ap startOf (sym (g .pages)) in
       record { eight = table-long (slotOf (p .next .cards) pcrs) slotCount; right = of-well t (length (stored (p .store) payload m)) (of-state t a c) n }
 
+  -- what is planned
+  pub plan-good : (room : ℕ) (payload : List ℕ) (e : Event) → Good (faceOf s) (planOf s (length m) room payload e)
+  plan-good room payload e =
+      decide-good (faceOf s) face-right eight-cards (wellFormed s (length m)) room (length payload) (readManifest payload) (read-keeps payload) e
+
   pub step-well : (e : Event) (payload buffer : List ℕ) → Well (step s m e payload buffer .state) (step s m e payload buffer .memory)
   unfolding step
   step-well e payload buffer =
-      acts-well (planOf s (length m) (length buffer) payload e) payload buffer
-      (decide-good (faceOf s) face-right eight-cards (wellFormed s (length m)) (length buffer) (length payload) (readManifest payload) (read-keeps payload) e)
+      acts-well (planOf s (length m) (length buffer) payload e) payload buffer (plan-good (length buffer) payload e)
+
+  -- P and M stay
+  pub step-pages : (e : Event) (payload buffer : List ℕ) → step s m e payload buffer .state .pages ≡ s .pages
+  unfolding step stateOf
+  step-pages e payload buffer = plan-good (length buffer) payload e .pages
+
+  pub step-kept : (e : Event) (payload buffer : List ℕ) → step s m e payload buffer .state .kept ≡ s .kept
+  unfolding step stateOf
+  step-kept e payload buffer = plan-good (length buffer) payload e .kept
 
 pub stays : StaysWellFormed
 stays w [] h = h

@@ -8,7 +8,7 @@ use Rattle.geometry.specs.Geometry.{slotCount}
 use Rattle.state.specs.declared.State.{State}
 use Rattle.wellformed.specs.WellFormed.{wellFormed}
 use Rattle.events.specs.declared.Event.{Event}
-use Rattle.rules.specs.Act.{World, Out, step}
+use Rattle.rules.specs.Act.{World, step}
 
 -- a state of eight slots, as every value of its type has, that is well formed with its memory
 pub record Well (s : State) (m : List ℕ) : Type 0 where

@@ -6,3 +6,5 @@ pub mod Rules
 pub mod Effects
 pub mod Isolated
 pub mod Shapes
+pub mod Measured
+pub mod Called

@@ -1,9 +1,9 @@
 -- The state that a plan's face and µPCRs make: its parts, when two are the same, and what the types say of it.
-use Prim.Native.Nat.{ℕ, _+_, _≤_, _<_}
+use Prim.Native.Nat.{ℕ, _≤_, _<_}
 use native.Mathlib.Omega.{arith}
 use mathlib.Core.Path.{_≡_, refl, ap, _∙_}
 use mathlib.Core.Logic.{_⊎_, ⊎-elim}
-use mathlib.Core.List.{List, [], _++_}
+use mathlib.Core.List.{List, []}
 use lib.ListN.{length, getD, length-map, length-replicate, List·getD-eq-default, getD-replicate}
 use Rattle.lists.specs.Below.{table}
 use Rattle.lists.proofs.Logic.{lt-or-ge}
@@ -69,8 +69,12 @@ zeros-small i =
     (λ (l : pcrCount ≤ i). rw (List·getD-eq-default zeroPcrs noPcr {n = i} (omega (arith, length-replicate pcrCount zeroPcr))) (omega arith))
     (lt-or-ge i pcrCount)
 
+-- whatever is hashed
+hash-long : (l : List ℕ) → length (sha1 l) ≤ digestSize
+hash-long l = omega (arith, sha1-long l)
+
 hash-small : (old : Digest) (content : List ℕ) → Small (extendedBy old content)
-hash-small old content = omega (arith, sha1-long (old .bytes ++ sha1 content))
+hash-small old content = hash-long _
 
 extended-small : (xs : List Digest) (i : ℕ) (content : List ℕ) → AllSmall xs → AllSmall (extended xs i content)
 unfolding extended
@@ -78,7 +82,7 @@ extended-small xs i content h q = set-one Small noPcr xs i q _ (hash-small (getD
 
 measured-small : (content : List ℕ) → AllSmall (measured content)
 unfolding measured
-measured-small content q = set-one Small noPcr zeroPcrs 0 q _ (hash-small zeroPcr content) (zeros-small q)
+measured-small content q = set-one Small noPcr zeroPcrs 0 q _ (hash-long _) (zeros-small q)
 
 sealed-small : (s : Seal) (bs m : List ℕ) (c : List (List Digest)) → ((j : ℕ) → AllSmall (getD c j [])) → (j : ℕ) → AllSmall (getD (sealed s bs m c) j [])
 sealed-small same bs m c h j = h j

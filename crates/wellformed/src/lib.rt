@@ -153,7 +153,7 @@ fn slots_right(s: State) -> bool
     let top = s.pages - s.kept;
     let mut ok = true;
     let mut k: usize = 0;
-    while k < 8 {
+    while k < Geometry::SLOTS {
         let x = s.slots[k];
         ok = ok & slot_right(x, top);
         k += 1;

@@ -16,10 +16,6 @@ use Rattle.devicemap.specs.Map.{mapLength, mapped, bufferAfter}
 use Rattle.devicemap.proofs.Maps.{map-same}
 use Rattle.devicemap.proofs.device_map.Statement.{statement}
 use Rattle.devicemap.proofs.device_map.Tie as tie
-use Rattle.devicemap.proofs.device_map.Reads as reads
-use Rattle.devicemap.proofs.device_map.Lts as lts
-use Rattle.devicemap.proofs.fill.Reads as fill-reads
-use Rattle.wellformed.proofs.state_right.Reads as state-right-reads
 
 state-right-requires : tie.Need-state-right-requires
 state-right-requires c κs = search needs

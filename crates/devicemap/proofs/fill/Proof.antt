@@ -9,9 +9,6 @@ use borrow.Author.Needs.{needs}
 use native.Mathlib.Omega.{arith}
 use Rattle.devicemap.proofs.fill.Statement.{statement}
 use Rattle.devicemap.proofs.fill.Tie as tie
-use Rattle.devicemap.proofs.fill.Reads as reads
-use Rattle.devicemap.proofs.fill.Lts as lts
-use Rattle.devicemap.proofs.map_byte.Reads as map-byte-reads
 
 abbrev Inv-loop : tie.InvT-loop
 Inv-loop owner pages n buffer₀ i₀ buffer i = (i ≤ n) × ((buffer ≡ sets buffer₀ 0 (table (byteIn owner pages) i)) × (length buffer ≡ length buffer₀))

@@ -7,9 +7,6 @@ use borrow.Author.Needs.{needs}
 use native.Mathlib.Omega.{arith}
 use Rattle.devicemap.proofs.map_byte.Statement.{statement}
 use Rattle.devicemap.proofs.map_byte.Tie as tie
-use Rattle.devicemap.proofs.map_byte.Reads as reads
-use Rattle.devicemap.proofs.map_byte.Lts as lts
-use Rattle.devicemap.proofs.shut.Reads as shut-reads
 
 abbrev Inv-loop : tie.InvT-loop
 Inv-loop owner pages i bits₀ j₀ bits j = (j ≤ 8) × (bits ≡ numberOf j (bitIn owner pages i))

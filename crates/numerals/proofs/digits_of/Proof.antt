@@ -8,9 +8,6 @@ use borrow.Author.Needs.{needs}
 use native.Mathlib.Omega.{arith}
 use Rattle.numerals.proofs.digits_of.Statement.{statement}
 use Rattle.numerals.proofs.digits_of.Tie as tie
-use Rattle.numerals.proofs.digits_of.Reads as reads
-use Rattle.numerals.proofs.digits_of.Lts as lts
-use Rattle.numerals.proofs.low_digit.Reads as low-digit-reads
 
 abbrev Inv-loop : tie.InvT-loop
 Inv-loop x bytes₀ at₀ v₀ bytes at v = (at ≤ 19) × (length bytes ≡ 20) × (digits at v ++ drop (at + 1) bytes ≡ decimal x) × (v < 10 ^ (at + 1))

@@ -4,8 +4,6 @@ use Rattle.lists.proofs.Logic.{pick-true, pick-false}
 use borrow.Author.Needs.{needs}
 use Rattle.numerals.proofs.hex_digit.Statement.{statement}
 use Rattle.numerals.proofs.hex_digit.Tie as tie
-use Rattle.numerals.proofs.hex_digit.Reads as reads
-use Rattle.numerals.proofs.hex_digit.Lts as lts
 
 add-result : tie.Need-add-result
 add-result c = search needs

@@ -10,9 +10,6 @@ use borrow.Author.Needs.{needs}
 use native.Mathlib.Omega.{arith}
 use Rattle.numerals.proofs.is_hex.Statement.{statement}
 use Rattle.numerals.proofs.is_hex.Tie as tie
-use Rattle.numerals.proofs.is_hex.Reads as reads
-use Rattle.numerals.proofs.is_hex.Lts as lts
-use Rattle.numerals.proofs.hex_value.Reads as hex-value-reads
 
 abbrev Inv-loop : tie.InvT-loop
 Inv-loop text right₀ i₀ right i = (i ≤ length text) × (right ≡ all-below i (hexAt text))

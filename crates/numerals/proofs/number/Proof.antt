@@ -11,9 +11,6 @@ use Rattle.numerals.specs.Decimal.{valueOf, digitAt, digitValue}
 use Rattle.numerals.proofs.Reading.{number-stop, number-more, number-end, number-none, number-empty, number-zero, number-fits, moreTest, more-right, more-value, value-more}
 use Rattle.numerals.proofs.number.Statement.{statement}
 use Rattle.numerals.proofs.number.Tie as tie
-use Rattle.numerals.proofs.number.Reads as reads
-use Rattle.numerals.proofs.number.Lts as lts
-use Rattle.numerals.proofs.more.Reads as more-reads
 
 abbrev Inv-loop : tie.InvT-loop
 Inv-loop text value₀ i₀ value i = (i ≤ length text) × (true ≡ all-below i (digitAt text)) × (value ≡ valueOf text i) × (value < 2 ^ 64)

@@ -7,10 +7,6 @@ use native.Mathlib.Omega.{arith}
 use borrow.Author.Needs.{needs}
 use Rattle.numerals.proofs.put_decimal.Statement.{statement}
 use Rattle.numerals.proofs.put_decimal.Tie as tie
-use Rattle.numerals.proofs.put_decimal.Reads as reads
-use Rattle.numerals.proofs.put_decimal.Lts as lts
-use Rattle.memory.proofs.put_bytes.Reads as put-bytes-reads
-use Rattle.numerals.proofs.digits_of.Reads as digits-of-reads
 
 enough : (n : ℕ) → n ≡ 20 → 20 ≤ n
 enough n e = omega arith

@@ -9,9 +9,6 @@ use borrow.Author.Needs.{needs}
 use native.Mathlib.Omega.{arith}
 use Rattle.numerals.proofs.put_hex.Statement.{statement}
 use Rattle.numerals.proofs.put_hex.Tie as tie
-use Rattle.numerals.proofs.put_hex.Reads as reads
-use Rattle.numerals.proofs.put_hex.Lts as lts
-use Rattle.numerals.proofs.hex_value.Reads as hex-value-reads
 
 ap2 : {a b x y : ℕ} → a ≡ x → b ≡ y → a * 16 + b ≡ x * 16 + y
 ap2 e f = omega arith

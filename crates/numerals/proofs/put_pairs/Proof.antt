@@ -8,9 +8,6 @@ use borrow.Author.Needs.{needs}
 use native.Mathlib.Omega.{arith}
 use Rattle.numerals.proofs.put_pairs.Statement.{statement}
 use Rattle.numerals.proofs.put_pairs.Tie as tie
-use Rattle.numerals.proofs.put_pairs.Reads as reads
-use Rattle.numerals.proofs.put_pairs.Lts as lts
-use Rattle.numerals.proofs.hex_digit.Reads as hex-digit-reads
 
 abbrev Inv-loop : tie.InvT-loop
 Inv-loop bytes out₀ at i₀ p₀ out i p = (i ≤ length bytes) × (p ≡ at + i * 2) × (sets out p (pairs (drop i bytes)) ≡ sets out₀ at (pairs bytes)) × (length out ≡ length out₀)

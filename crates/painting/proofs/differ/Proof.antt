@@ -10,8 +10,6 @@ use Rattle.lists.proofs.All.{all-end, bits-none, bits-step, xor-zero}
 use Rattle.painting.specs.Painting.{alike}
 use Rattle.painting.proofs.differ.Statement.{statement}
 use Rattle.painting.proofs.differ.Tie as tie
-use Rattle.painting.proofs.differ.Reads as reads
-use Rattle.painting.proofs.differ.Lts as lts
 
 abbrev Inv-loop : tie.InvT-loop
 Inv-loop a b bad₀ p₀ bad p = (p ≤ 1024) × (eqb bad 0 ≡ all-below p (alike a b))

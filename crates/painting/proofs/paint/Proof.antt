@@ -6,8 +6,6 @@ use Rattle.painting.specs.Painting.{painted}
 use Rattle.painting.proofs.Painted.{painted-none, painted-more, painted-done}
 use Rattle.painting.proofs.paint.Statement.{statement}
 use Rattle.painting.proofs.paint.Tie as tie
-use Rattle.painting.proofs.paint.Reads as reads
-use Rattle.painting.proofs.paint.Lts as lts
 
 abbrev Inv-loop : tie.InvT-loop
 Inv-loop t₀ f n v j₀ t j = (j ≤ n) × (t ≡ painted t₀ f j v)

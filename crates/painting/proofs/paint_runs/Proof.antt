@@ -6,9 +6,6 @@ use Rattle.painting.specs.Painting.{paintedRuns}
 use Rattle.painting.proofs.Painted.{runs-none, runs-step, runs-done}
 use Rattle.painting.proofs.paint_runs.Statement.{statement}
 use Rattle.painting.proofs.paint_runs.Tie as tie
-use Rattle.painting.proofs.paint_runs.Reads as reads
-use Rattle.painting.proofs.paint_runs.Lts as lts
-use Rattle.painting.proofs.paint.Reads as paint-reads
 
 abbrev Inv-loop : tie.InvT-loop
 Inv-loop t₀ n v runs i₀ t i = (i ≤ n) × (t ≡ paintedRuns t₀ runs v i)

@@ -10,8 +10,6 @@ use Rattle.lists.proofs.All.{all-end, bits-none, bits-step, xor-zero}
 use Rattle.painting.specs.Painting.{ownedFrom}
 use Rattle.painting.proofs.run_off.Statement.{statement}
 use Rattle.painting.proofs.run_off.Tie as tie
-use Rattle.painting.proofs.run_off.Reads as reads
-use Rattle.painting.proofs.run_off.Lts as lts
 
 abbrev Inv-loop : tie.InvT-loop
 Inv-loop o f n v bad₀ j₀ bad j = (j ≤ n) × (eqb bad 0 ≡ all-below j (ownedFrom o f v))

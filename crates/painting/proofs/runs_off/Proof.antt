@@ -8,9 +8,6 @@ use Rattle.lists.proofs.All.{all-end, bits-none, bits-step}
 use Rattle.painting.specs.Painting.{ownedRun}
 use Rattle.painting.proofs.runs_off.Statement.{statement}
 use Rattle.painting.proofs.runs_off.Tie as tie
-use Rattle.painting.proofs.runs_off.Reads as reads
-use Rattle.painting.proofs.runs_off.Lts as lts
-use Rattle.painting.proofs.run_off.Reads as run-off-reads
 
 abbrev Inv-loop : tie.InvT-loop
 Inv-loop o n v runs bad₀ i₀ bad i = (i ≤ n) × (eqb bad 0 ≡ all-below i (ownedRun o runs v))

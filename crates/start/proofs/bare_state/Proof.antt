@@ -6,9 +6,6 @@ use Rattle.state.specs.Zero.{zeroRunning}
 use borrow.Author.Needs.{needs}
 use Rattle.start.proofs.bare_state.Statement.{statement}
 use Rattle.start.proofs.bare_state.Tie as tie
-use Rattle.start.proofs.bare_state.Reads as reads
-use Rattle.start.proofs.bare_state.Lts as lts
-use Rattle.state.proofs.Slot.zero.Reads as zero-reads
 
 zero-requires : tie.Need-zero-requires
 zero-requires c κs = search needs

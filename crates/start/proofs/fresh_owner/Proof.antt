@@ -8,9 +8,6 @@ use Rattle.start.specs.Start.{freshOwner}
 use native.Mathlib.Omega.{arith}
 use Rattle.start.proofs.fresh_owner.Statement.{statement}
 use Rattle.start.proofs.fresh_owner.Tie as tie
-use Rattle.start.proofs.fresh_owner.Reads as reads
-use Rattle.start.proofs.fresh_owner.Lts as lts
-use Rattle.start.proofs.fresh_page.Reads as fresh-page-reads
 
 abbrev Inv-loop : tie.InvT-loop
 Inv-loop p m owner₀ i₀ owner i = (i ≤ 1024) × (owner ≡ written (freshOwner p m) owner₀ i)

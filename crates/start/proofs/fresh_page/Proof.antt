@@ -2,8 +2,6 @@ use borrow.Author.Tests.{lt-ltb, le-ltb}
 use borrow.Author.Needs.{needs}
 use Rattle.start.proofs.fresh_page.Statement.{statement}
 use Rattle.start.proofs.fresh_page.Tie as tie
-use Rattle.start.proofs.fresh_page.Reads as reads
-use Rattle.start.proofs.fresh_page.Lts as lts
 
 sub-if1 : tie.Need-sub-if1
 sub-if1 c = search needs

@@ -7,10 +7,6 @@ use Rattle.start.specs.Start.{startOf, freshState}
 use borrow.Author.Needs.{needs}
 use Rattle.start.proofs.start.Statement.{statement}
 use Rattle.start.proofs.start.Tie as tie
-use Rattle.start.proofs.start.Reads as reads
-use Rattle.start.proofs.start.Lts as lts
-use Rattle.start.proofs.bare_state.Reads as bare-state-reads
-use Rattle.start.proofs.fresh_owner.Reads as fresh-owner-reads
 
 sizes-right-requires : tie.Need-sizes-right-requires
 sizes-right-requires c κs = search needs

@@ -11,8 +11,6 @@ use Rattle.wellformed.specs.WellFormed.{outputAt}
 use native.Mathlib.Omega.{arith}
 use Rattle.wellformed.proofs.any_output.Statement.{statement}
 use Rattle.wellformed.proofs.any_output.Tie as tie
-use Rattle.wellformed.proofs.any_output.Reads as reads
-use Rattle.wellformed.proofs.any_output.Lts as lts
 
 abbrev Inv-loop : tie.InvT-loop
 Inv-loop e n entries ok₀ i₀ ok i = (i ≤ e) × (ok ≡ any-below i (outputAt (fieldsOf 0 e [] entries) n))

@@ -11,9 +11,6 @@ use borrow.Author.Needs.{needs}
 use native.Mathlib.Omega.{arith}
 use Rattle.wellformed.proofs.entries_bits.Statement.{statement}
 use Rattle.wellformed.proofs.entries_bits.Tie as tie
-use Rattle.wellformed.proofs.entries_bits.Reads as reads
-use Rattle.wellformed.proofs.entries_bits.Lts as lts
-use Rattle.wellformed.proofs.entry_bits.Reads as entry-bits-reads
 
 abbrev Inv-loop : tie.InvT-loop
 Inv-loop entries bits₀ i₀ bits i = (i ≤ 8) × (eqb bits 0 ≡ all-below i (entryZeroAt (fieldsOf 0 0 [] entries)))

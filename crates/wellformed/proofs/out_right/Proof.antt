@@ -7,9 +7,6 @@ use native.Mathlib.Omega.{arith}
 use borrow.Author.Needs.{needs}
 use Rattle.wellformed.proofs.out_right.Statement.{statement}
 use Rattle.wellformed.proofs.out_right.Tie as tie
-use Rattle.wellformed.proofs.out_right.Reads as reads
-use Rattle.wellformed.proofs.out_right.Lts as lts
-use Rattle.geometry.proofs.Geometry.is_range.Reads as is-range-reads
 
 returns : tie.Need-returns
 returns c = rw (eq-eqb _ _ (c .if1 .taken))

@@ -17,12 +17,6 @@ use borrow.Author.Needs.{needs}
 use native.Mathlib.Omega.{arith}
 use Rattle.wellformed.proofs.pages_right.Statement.{statement}
 use Rattle.wellformed.proofs.pages_right.Tie as tie
-use Rattle.wellformed.proofs.pages_right.Reads as reads
-use Rattle.wellformed.proofs.pages_right.Lts as lts
-use Rattle.painting.proofs.differ.Reads as differ-reads
-use Rattle.painting.proofs.paint.Reads as paint-reads
-use Rattle.painting.proofs.paint_runs.Reads as paint-runs-reads
-use Rattle.painting.proofs.runs_off.Reads as runs-off-reads
 
 abbrev Inv-loop : tie.InvT-loop
 Inv-loop s m top t₀ bad₀ k₀ t bad k = (k ≤ 8) × ((eqb bad 0 ≡ all-below k (ownedSlot (faceOf s))) × (t ≡ paintedTo (faceOf s) k))

@@ -11,8 +11,6 @@ use Rattle.fields.specs.Pages.{underAt, pagesUnder}
 use native.Mathlib.Omega.{arith}
 use Rattle.wellformed.proofs.pages_under.Statement.{statement}
 use Rattle.wellformed.proofs.pages_under.Tie as tie
-use Rattle.wellformed.proofs.pages_under.Reads as reads
-use Rattle.wellformed.proofs.pages_under.Lts as lts
 
 abbrev Inv-loop : tie.InvT-loop
 Inv-loop r top runs ok₀ i₀ ok i = (i ≤ r) × (ok ≡ all-below i (underAt (fieldsOf r 0 runs []) top))

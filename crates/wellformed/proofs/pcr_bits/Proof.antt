@@ -10,8 +10,6 @@ use Rattle.wellformed.specs.WellFormed.{byteZeroAt}
 use native.Mathlib.Omega.{arith}
 use Rattle.wellformed.proofs.pcr_bits.Statement.{statement}
 use Rattle.wellformed.proofs.pcr_bits.Tie as tie
-use Rattle.wellformed.proofs.pcr_bits.Reads as reads
-use Rattle.wellformed.proofs.pcr_bits.Lts as lts
 
 abbrev Inv-loop : tie.InvT-loop
 Inv-loop x bits₀ i₀ bits i = (i ≤ 20) × (eqb bits 0 ≡ all-below i (byteZeroAt x))

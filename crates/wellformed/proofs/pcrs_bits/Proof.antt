@@ -10,9 +10,6 @@ use borrow.Author.Needs.{needs}
 use native.Mathlib.Omega.{arith}
 use Rattle.wellformed.proofs.pcrs_bits.Statement.{statement}
 use Rattle.wellformed.proofs.pcrs_bits.Tie as tie
-use Rattle.wellformed.proofs.pcrs_bits.Reads as reads
-use Rattle.wellformed.proofs.pcrs_bits.Lts as lts
-use Rattle.wellformed.proofs.pcr_bits.Reads as pcr-bits-reads
 
 abbrev Inv-loop : tie.InvT-loop
 Inv-loop pcrs bits₀ i₀ bits i = (i ≤ 8) × (eqb bits 0 ≡ all-below i (pcrZeroAt pcrs))

@@ -2,8 +2,6 @@ use Rattle.lists.proofs.All.{or-zero}
 use borrow.Author.Needs.{needs}
 use Rattle.wellformed.proofs.run_bits.Statement.{statement}
 use Rattle.wellformed.proofs.run_bits.Tie as tie
-use Rattle.wellformed.proofs.run_bits.Reads as reads
-use Rattle.wellformed.proofs.run_bits.Lts as lts
 
 cast-result : tie.Need-cast-result
 cast-result c = search needs

@@ -11,9 +11,6 @@ use borrow.Author.Needs.{needs}
 use native.Mathlib.Omega.{arith}
 use Rattle.wellformed.proofs.runs_bits.Statement.{statement}
 use Rattle.wellformed.proofs.runs_bits.Tie as tie
-use Rattle.wellformed.proofs.runs_bits.Reads as reads
-use Rattle.wellformed.proofs.runs_bits.Lts as lts
-use Rattle.wellformed.proofs.run_bits.Reads as run-bits-reads
 
 abbrev Inv-loop : tie.InvT-loop
 Inv-loop runs bits₀ i₀ bits i = (i ≤ 4) × (eqb bits 0 ≡ all-below i (runZeroAt (fieldsOf 0 0 runs [])))

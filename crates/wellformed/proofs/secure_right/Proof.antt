@@ -9,10 +9,6 @@ use Rattle.wellformed.proofs.Slots.{card-of, entries-few, running-parts
 use borrow.Author.Needs.{needs}
 use Rattle.wellformed.proofs.secure_right.Statement.{statement}
 use Rattle.wellformed.proofs.secure_right.Tie as tie
-use Rattle.wellformed.proofs.secure_right.Reads as reads
-use Rattle.wellformed.proofs.secure_right.Lts as lts
-use Rattle.wellformed.proofs.any_output.Reads as any-output-reads
-use Rattle.wellformed.proofs.out_right.Reads as out-right-reads
 
 returns : tie.Need-returns
 returns c = simp (le-ltb _ _ (c .if1 .taken), and-false)

@@ -8,10 +8,6 @@ use Rattle.fields.proofs.Facts.{kept}
 use borrow.Author.Needs.{needs}
 use Rattle.wellformed.proofs.used_right.Statement.{statement}
 use Rattle.wellformed.proofs.used_right.Tie as tie
-use Rattle.wellformed.proofs.used_right.Reads as reads
-use Rattle.wellformed.proofs.used_right.Lts as lts
-use Rattle.keeps.proofs.keeps.Reads as keeps-reads
-use Rattle.wellformed.proofs.pages_under.Reads as pages-under-reads
 
 keeps-requires : tie.Need-keeps-requires
 keeps-requires c κs = search needs

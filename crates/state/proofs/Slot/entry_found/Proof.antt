@@ -8,8 +8,6 @@ use Rattle.lists.proofs.First.{first-none, first-more, first-hit, first-end}
 use Rattle.state.specs.Slots.{beginsAt, entryFound}
 use Rattle.state.proofs.Slot.entry_found.Statement.{statement}
 use Rattle.state.proofs.Slot.entry_found.Tie as tie
-use Rattle.state.proofs.Slot.entry_found.Reads as reads
-use Rattle.state.proofs.Slot.entry_found.Lts as lts
 
 abbrev Inv-loop : tie.InvT-loop
 Inv-loop address fields i₀ i = (i ≤ 8) × (i ≡ first-below (beginsAt fields address) i)

@@ -2,9 +2,6 @@ use Rattle.state.specs.Slots.{extendedPcrs, extendedSlot}
 use borrow.Author.Needs.{needs}
 use Rattle.state.proofs.Slot.extended.Statement.{statement}
 use Rattle.state.proofs.Slot.extended.Tie as tie
-use Rattle.state.proofs.Slot.extended.Reads as reads
-use Rattle.state.proofs.Slot.extended.Lts as lts
-use Rattle.sha1.proofs.hash_pair.Reads as hash-pair-reads
 
 mul-old : tie.Need-mul-old
 mul-old c = search needs

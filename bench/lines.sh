@@ -1,0 +1,42 @@
+#!/bin/bash
+# Lines a second of the proved line program and of the C one (gcc -O3) on 1,000,000 lines of mixed events, run the same way.
+# Both must answer the same. The trace is kept in target/. No part of the gate: a time is no test.
+#   bench/lines.sh [LINES]
+set -eu
+cd "$(dirname "$0")/.."
+lines=${1:-1000000}
+work=target/bench/lines
+mkdir -p "$work"
+[ -x target/bin/bench ] || { echo "target/bin/bench is not there: rt check bench"; exit 1; }
+
+install() { # COMMAND PACKAGE: from Debian's packages, where the command is not there
+    command -v "$1" >/dev/null || { apt-get update -qq && apt-get install -y -qq "$2" >/dev/null; }
+}
+gcc=gcc
+if [ "$(uname -m)" != x86_64 ]; then
+    echo "This machine is no x86-64: both run under the emulator, and only the ratio says something."
+    gcc=x86_64-linux-gnu-gcc
+    install "$gcc" gcc-x86-64-linux-gnu
+fi
+install "$gcc" gcc
+trace=$work/trace-$lines
+[ -s "$trace" ] || { python3 tests/second/traces.py 1 "$lines" >"$trace.new" && mv "$trace.new" "$trace"; }
+
+# tests/run finds its program in target/bin
+"$gcc" -std=gnu11 -O3 bench/lines_c.c bench/monitor.c -o target/bin/bench-c
+trap 'rm -f target/bin/bench-c' EXIT
+
+seconds() { # NAME: of processor time, the least of three runs
+    local best='' took
+    for _ in 1 2 3; do
+        took=$({ TIMEFORMAT=%U; time tests/run "$1" <"$trace" >"$work/$1.out"; } 2>&1)
+        best=$(printf '%s\n' $best "$took" | sort -n | head -n 1)
+    done
+    echo "$best"
+}
+proved=$(seconds bench) c=$(seconds bench-c)
+cmp "$work/bench.out" "$work/bench-c.out"
+awk -v n="$lines" -v a="$proved" -v c="$c" 'BEGIN {
+    print "| program | seconds | lines a second | ratio |\n|---|--:|--:|--:|"
+    printf "| proved | %.2f | %.0f | %.2f |\n| C, gcc -O3 | %.2f | %.0f | 1.00 |\n", a, n / a, a / c, c, n / c }'
+echo "The same $lines answers."

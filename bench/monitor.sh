@@ -1,0 +1,56 @@
+#!/bin/bash
+# The proved monitor, called as firmware calls it (crate host, over a lent state), beside the plain C monitor by gcc -O3, in one
+# run: first random events on which both must do the same, then ns and ratios with the TrustVisor report's tables 2 and 3
+# beside them (its own hardware, an AMD machine of 2008, with the switch of processor modes in its times: marks, not rivals),
+# registration beside the bare hash of its pages, and the deepest stack use. No part of the gate: a time is no test.
+set -eu
+cd "$(dirname "$0")/.."
+work=target/bench/monitor
+rm -rf "$work"
+mkdir -p "$work/bare"
+
+install() { # COMMAND PACKAGE: from Debian's packages, where the command is not there
+    command -v "$1" >/dev/null || { apt-get update -qq && apt-get install -y -qq "$2" >/dev/null; }
+}
+gcc=gcc run=''
+if [ "$(uname -m)" != x86_64 ]; then
+    echo "This machine is no x86-64: the code runs under the toolchain's emulator. Its nanoseconds say nothing and its ratios little of vector code;"
+    echo "so the instructions of one event are counted too."
+    home=${RATTLE_HOME:-$(cd "$(dirname "$(readlink -f "$(command -v rt)")")/.." && pwd)}
+    gcc=x86_64-linux-gnu-gcc run=$home/on/$(uname -m)/toolchain/bin/qemu-x86_64
+    install "$gcc" gcc-x86-64-linux-gnu
+fi
+install "$gcc" gcc
+
+archive() { # FOLDER NAME: the archive of a proved crate of the repository in a folder
+    (cd "$1" && rt staticlib "$2") >"$work/staticlib.log" 2>&1 || { tail -n 5 "$work/staticlib.log"; exit 1; }
+}
+archive . host
+
+# the bare hash: sha1's own function under a name that C can call
+cp -r crates "$work/bare"
+mkdir -p "$work/bare/crates/bare/src"
+cat >"$work/bare/crates/bare/src/lib.rt" <<'END'
+ghost use mathlib.Core.Path.{_≡_};
+ghost use Rattle.sha1.specs.Sha1 as Sha1;
+
+#[no_mangle]
+pub extern "C" fn sha1_hash(part: &[u8]) -> sha1::Digest
+    ensures { λ r. ⌜ r .bytes ≡ Sha1.sha1 (now (part .entry)) ⌝ }
+{
+    sha1::hash(part)
+}
+END
+{ cat crates.txt; echo "bare:$(sed -n 's/^sha1://p' crates.txt) sha1"; } >"$work/bare/crates.txt"
+archive "$work/bare" bare
+
+"$gcc" -std=gnu11 -O3 -c bench/monitor.c -o "$work/monitor.o"
+"$gcc" -std=gnu11 -O2 -fno-strict-aliasing -static bench/monitor_times.c "$work/monitor.o" target/staticlib/libhost.a "$work/bare/target/staticlib/libbare.a" -o "$work/times"
+if [ -n "$run" ]; then
+    python3 bench/counts.py "$run" "$work/times" "$@"
+else
+    "$work/times" "$@"
+fi
+echo
+echo "Copies of a slot (0x120) or of a state (0xd30 and near) in the archive, by memcpy:"
+"${gcc%gcc}objdump" -dr --no-show-raw-insn target/staticlib/libhost.a | grep -B6 'R_X86_64_PLT32.*memcpy' | grep -oE '\$0x[0-9a-f]+,%edx' | sort | uniq -c | sort -rn | head

@@ -1,0 +1,90 @@
+// Which slot and entry a call names, and where the param page is.
+use fields::Run;
+use geometry::Geometry;
+use state::Found;
+use state::Slot;
+use state::State;
+ghost use mathlib.Core.Path.{_≡_};
+ghost use mathlib.Core.Bool.{true, _&&_};
+ghost use mathlib.Core.List.{[]};
+ghost use Prim.Native.Nat.{ℕ, _≤_, _<_};
+ghost use lib.Dec.{ltb};
+ghost use Rattle.lists.specs.Below.{any-below};
+ghost use Rattle.geometry.specs.Geometry.{slotCount, startOf, mostPages};
+ghost use Rattle.fields.specs.Fields.{fieldsOf, runPlaces, entryPlaces};
+ghost use Rattle.fields.specs.Pages.{isParamAt, paramOf};
+ghost use Rattle.state.specs.Face.{faceOf, cardAt};
+ghost use Rattle.wellformed.specs.WellFormed.{stateRight};
+ghost use Rattle.rules.specs.Tests.{underMark, entryOf, slotFor, keptAs};
+
+// The slot is registered under the mark, and has an entry at the address.
+fn callable(slot: Slot, mark: u64, address: usize) -> bool
+    requires { ⌜ slot .card .fields .e ≤ entryPlaces ⌝ }
+    ensures { λ r. ⌜ r ≡ underMark (slot .card) mark && ltb (entryOf (slot .card .fields) address) (slot .card .fields .e) ⌝ }
+{
+    let registered = slot.card.registered;
+    let under = slot.card.mark;
+    if registered & (under == mark) {
+        let found = slot.entry_found(address);
+        match found {
+            Found::At(_) => return true,
+            Found::Nothing => return false,
+        }
+    }
+    false
+}
+
+// The lowest such slot; none: 8.
+pub fn slot_for(s: State, mark: u64, address: usize) -> usize
+    requires { ⌜ stateRight s ≡ true ⌝ }
+    ensures { λ r. ⌜ r ≡ slotFor (faceOf s) mark address ⌝ }
+{
+    let mut k: usize = 0;
+    while k < Geometry::SLOTS {
+        let slot = s.slots[k];
+        if callable(slot, mark, address) {
+            return k;
+        }
+        k += 1;
+    }
+    Geometry::SLOTS
+}
+
+// The param page of runs that have one.
+pub fn param_of(n: usize, runs: [Run; 4]) -> usize
+    requires { ⌜ (n ≤ runPlaces) × (any-below n (isParamAt (fieldsOf n 0 runs [])) ≡ true) ⌝ }
+    ensures { λ r. ⌜ r ≡ paramOf (fieldsOf n 0 runs []) ⌝ }
+{
+    let mut i: usize = 0;
+    while i < n {
+        let x = runs[i];
+        if x.kind == 4 {
+            return x.first as usize;
+        }
+        i += 1;
+    }
+    0
+}
+
+// Where the param page of registered slot k begins.
+pub fn param_start(s: State, k: usize) -> usize
+    requires { ⌜ (stateRight s ≡ true) × ((k < slotCount) × (cardAt (faceOf s) k .registered ≡ true)) ⌝ }
+    ensures { λ r. ⌜ (r ≡ startOf (paramOf (cardAt (faceOf s) k .fields))) × (paramOf (cardAt (faceOf s) k .fields) < s .pages) ⌝ }
+{
+    let slot = s.slots[k];
+    let fields = slot.card.fields;
+    let n = fields.r;
+    let runs = fields.runs;
+    let page = param_of(n, runs);
+    page * Geometry::PAGE
+}
+
+// "A length of 0 .. means that address isn't looked at and is kept as 0."
+pub fn kept_as(n: usize, address: usize) -> usize
+    ensures { λ r. ⌜ r ≡ keptAs n address ⌝ }
+{
+    if n == 0 {
+        return 0;
+    }
+    address
+}

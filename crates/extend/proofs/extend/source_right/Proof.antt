@@ -1,0 +1,37 @@
+use Rattle.rules.specs.Decide.{sourceRight}
+use Rattle.state.specs.Face.{faceOf}
+use Rattle.memory.specs.declared.Source.{Source}
+use lib.Dec.{eqb}
+use mathlib.Core.Bool.{Bool, _||_}
+use mathlib.Core.Path.{_≡_, refl, sym, ap, _∙_}
+use borrow.Author.Needs.{needs}
+use native.Mathlib.Omega.{arith}
+use Rattle.extend.proofs.extend.source_right.Statement.{statement}
+use Rattle.extend.proofs.extend.source_right.Tie as tie
+
+enum-told : tie.Need-enum-told
+enum-told c = search needs
+
+enum-told-2 : tie.Need-enum-told-2
+enum-told-2 c = search needs
+
+is-range-requires : tie.Need-is-range-requires
+is-range-requires c κs = search needs
+
+returns : tie.Need-returns
+returns c = let a = c .before .before .args in sym (ap (λ (x : Source). sourceRight (faceOf (a .s)) x (a .size) (a .address) (a .n)) (c .enum-told .given .1))
+
+returns-2 : tie.Need-returns-2
+returns-2 c =
+    let a = c .before .before .before .args in
+    ap (λ (t : Bool). eqb (a .n) 0 || t) (c .is-range .ensures) ∙ sym (ap (λ (x : Source). sourceRight (faceOf (a .s)) x (a .size) (a .address) (a .n)) (c .before .enum-told2 .given .1))
+
+pub source-right-spec : {M : Type 1} → statement M
+source-right-spec =
+    tie.close
+    (tie.spec
+    enum-told
+    enum-told-2
+    is-range-requires
+    returns
+    returns-2)

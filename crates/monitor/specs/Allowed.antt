@@ -1,0 +1,37 @@
+-- Check 2, as the code asks it, and the outcome of a step as the code gives it.
+use Prim.Native.Nat.{ℕ}
+use mathlib.Core.Bool.{Bool, true, false, not}
+use mathlib.Core.List.{List}
+use Rattle.state.specs.declared.Mode.{Mode}
+use Rattle.state.specs.declared.Mode.the-variants.{Legacy, Secure}
+use Rattle.events.specs.declared.Event.{Event}
+use Rattle.events.specs.declared.Event.the-variants.{Register, Unregister, Call, Return, Jump, Read, Write, DeviceRead, DeviceWrite, Extend, PcrRead}
+use Rattle.rules.specs.Act.{Out}
+use Rattle.touch.specs.declared.Stepped.{Stepped}
+
+abbrev pub isLegacy : Mode → Bool
+isLegacy Legacy = true
+isLegacy (Secure k) = false
+
+-- the slot that runs; in legacy mode 0
+abbrev pub slotIn : Mode → ℕ
+slotIn Legacy = 0
+slotIn (Secure k) = k
+
+-- "event not allowed in this mode" is 2
+abbrev pub allowed : Mode → Event → Bool
+allowed m (Register mark) = isLegacy m
+allowed m (Unregister mark k) = isLegacy m
+allowed m (Call mark a i o) = isLegacy m
+allowed m Return = not (isLegacy m)
+allowed m (Jump a) = true
+allowed m (Read a n) = true
+allowed m (Write a) = true
+allowed m (DeviceRead a n) = true
+allowed m (DeviceWrite a) = true
+allowed m (Extend i source a n) = not (isLegacy m)
+allowed m (PcrRead i) = not (isLegacy m)
+
+-- answer and state, with memory and the buffer as they are left
+abbrev pub outOf : Stepped → List ℕ → List ℕ → Out
+outOf r m b = record { answer = r .answer; state = r .state; memory = m; buffer = b }

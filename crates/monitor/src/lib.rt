@@ -1,0 +1,140 @@
+// The monitor: one event, the state by value, lent memory and a lent answer buffer; the answer and the next state.
+use events::Answer;
+use events::Event;
+use state::Mode;
+use state::State;
+use touch::Stepped;
+ghost use mathlib.Core.Path.{_≡_};
+ghost use mathlib.Core.Bool.{true};
+ghost use lib.ListN.{length};
+ghost use Rattle.manifest.specs.Reader.{readManifest};
+ghost use Rattle.state.specs.Face.{faceOf, pcrsOf};
+ghost use Rattle.wellformed.specs.WellFormed.{wellFormed};
+ghost use Rattle.rules.specs.Decide.{ruleIn};
+ghost use Rattle.rules.specs.Act.{act};
+ghost use Rattle.rules.specs.Act as rules;
+ghost use Rattle.monitor.specs.Allowed as Allowed;
+
+fn is_legacy(mode: Mode) -> bool
+    ensures { λ r. ⌜ r ≡ Allowed.isLegacy mode ⌝ }
+{
+    match mode {
+        Mode::Legacy => true,
+        Mode::Secure(_) => false,
+    }
+}
+
+// The slot that runs; in legacy mode 0.
+fn slot_in(mode: Mode) -> usize
+    ensures { λ r. ⌜ r ≡ Allowed.slotIn mode ⌝ }
+{
+    match mode {
+        Mode::Legacy => 0,
+        Mode::Secure(k) => k,
+    }
+}
+
+// Check 2: the event is allowed in this mode.
+fn allowed(mode: Mode, event: Event) -> bool
+    ensures { λ r. ⌜ r ≡ Allowed.allowed mode event ⌝ }
+{
+    let legacy = is_legacy(mode);
+    match event {
+        Event::Register { mark: _ } => legacy,
+        Event::Unregister { mark: _, slot: _ } => legacy,
+        Event::Call {
+            mark: _,
+            address: _,
+            input: _,
+            output: _,
+        } => legacy,
+        Event::Return => !legacy,
+        Event::Jump { address: _ } => true,
+        Event::Read {
+            address: _,
+            length: _,
+        } => true,
+        Event::Write { address: _ } => true,
+        Event::DeviceRead {
+            address: _,
+            length: _,
+        } => true,
+        Event::DeviceWrite { address: _ } => true,
+        Event::Extend {
+            index: _,
+            source: _,
+            address: _,
+            length: _,
+        } => !legacy,
+        Event::PcrRead { index: _ } => !legacy,
+    }
+}
+
+// The events in document 01's order, each by the function of its name.
+fn dispatch(event: Event, payload: &[u8], s: State, memory: &mut [u8], buffer: &mut [u8]) -> Stepped
+    requires { ⌜ (wellFormed s (length (now memory)) ≡ true) × (Allowed.allowed (s .mode) event ≡ true) ⌝ }
+    ensures { λ r. ⌜ Allowed.outOf r (now (memory .exit)) (now (buffer .exit)) ≡ act (ruleIn (s .mode) (faceOf s) (length (now (buffer .entry))) (length (now (payload .entry))) (readManifest (now (payload .entry))) event) (now (payload .entry)) (now (buffer .entry)) (pcrsOf s) (now (memory .entry)) ⌝ }
+{
+    let mode = s.mode;
+    let k = slot_in(mode);
+    match event {
+        Event::Register { mark } => enroll::register::register(s, payload, memory, mark),
+        Event::Unregister { mark, slot } => {
+            release::unregister::unregister(s, memory, mark, slot)
+        }
+        Event::Call {
+            mark,
+            address,
+            input,
+            output,
+        } => call::call::call(s, memory, mark, address, input, output),
+        Event::Return => call::return_::return_(s, memory, k),
+        Event::Jump { address } => release::jump::jump(s, memory, address),
+        Event::Read { address, length } => Stepped {
+            answer: touch::read::read(s, memory, buffer, address, length),
+            state: s,
+        },
+        Event::Write { address } => Stepped {
+            answer: touch::write::write(s, memory, payload, address),
+            state: s,
+        },
+        Event::DeviceRead { address, length } => Stepped {
+            answer: touch::read::device_read(s, memory, buffer, address, length),
+            state: s,
+        },
+        Event::DeviceWrite { address } => Stepped {
+            answer: touch::write::device_write(s, memory, payload, address),
+            state: s,
+        },
+        Event::Extend {
+            index,
+            source,
+            address,
+            length,
+        } => extend::extend::extend(s, payload, memory, k, index, source, address, length),
+        Event::PcrRead { index } => Stepped {
+            answer: touch::pcr_read::pcr_read(s, k, buffer, index),
+            state: s,
+        },
+    }
+}
+
+// "Check 1 comes first, then 2, then the order shown."
+pub fn step(event: Event, payload: &[u8], s: State, memory: &mut [u8], buffer: &mut [u8]) -> Stepped
+    ensures { λ r. ⌜ Allowed.outOf r (now (memory .exit)) (now (buffer .exit)) ≡ rules.step s (now (memory .entry)) event (now (payload .entry)) (now (buffer .entry)) ⌝ }
+{
+    if !wellformed::well_formed(s, memory.len()) {
+        return Stepped {
+            answer: Answer::Refused(1),
+            state: s,
+        };
+    }
+    let mode = s.mode;
+    if !allowed(mode, event) {
+        return Stepped {
+            answer: Answer::Refused(2),
+            state: s,
+        };
+    }
+    dispatch(event, payload, s, memory, buffer)
+}

@@ -1,0 +1,54 @@
+use Rattle.touch.proofs.Plans.{in-mode}
+use Rattle.release.proofs.Releases.{jump-still}
+use Rattle.touch.proofs.Ready.{ready, mode-below}
+use Rattle.rules.specs.Decide.{jumpLegacy, jumpSecure, byMode}
+use Rattle.state.proofs.Shaped.{state-shape}
+use Rattle.state.specs.Face.{faceOf, pcrsOf}
+use Rattle.state.specs.declared.Mode.{Mode}
+use Prim.Native.Nat.{ℕ}
+use mathlib.Core.Path.{_≡_, refl, sym, ap, subst, _∙_}
+use borrow.Author.Needs.{needs}
+use native.Mathlib.Omega.{arith}
+use Rattle.release.proofs.jump.jump.Statement.{statement}
+use Rattle.release.proofs.jump.jump.Tie as tie
+
+enum-told : tie.Need-enum-told
+enum-told c = search needs
+
+jump-legacy-requires : tie.Need-jump-legacy-requires
+jump-legacy-requires c κs = let z = c .before .before .before in ready (z .args .s) _ (z .pre)
+
+enum-known-mode : tie.Need-enum-known-mode
+enum-known-mode c = search needs
+
+jump-secure-requires : tie.Need-jump-secure-requires
+jump-secure-requires c κs = let z = c .before .before .before .before .before in (z .pre, mode-below (z .args .s) (ready (z .args .s) _ (z .pre)) _ (c .before .before .mode .given .1))
+
+returns : tie.Need-returns
+returns c = λ payload.
+    let z = c .before .before .before .before in
+    let a = z .args in
+    in-mode (λ m. byMode m (jumpLegacy (faceOf (a .s)) (a .address)) (λ k. jumpSecure (faceOf (a .s)) k (a .address))) payload (pcrsOf (a .s)) (a .memory .now) (c .before .enum-told .given .1)
+    (jump-still (a .s) (state-shape (a .s) _ (z .good .0) .slots-long) (a .address) payload (a .memory .now) (c .jump-legacy .result) (c .jump-legacy .ensures))
+
+same-length : tie.Need-same-length
+same-length c = search needs
+
+returns-2 : tie.Need-returns-2
+returns-2 c = λ payload.
+    let z = c .before .before .before .before .before .before .before .before in
+    let a = z .args in
+    in-mode (λ m. byMode m (jumpLegacy (faceOf (a .s)) (a .address)) (λ k. jumpSecure (faceOf (a .s)) k (a .address))) payload (pcrsOf (a .s)) (a .memory .now) (c .before .before .before .before .before .mode .given .1)
+    (c .before .before .jump-secure .ensures payload)
+
+pub jump-spec : {M : Type 1} → statement M
+jump-spec =
+    tie.close
+    (tie.spec
+    enum-told
+    jump-legacy-requires
+    enum-known-mode
+    jump-secure-requires
+    returns
+    same-length
+    returns-2)

@@ -1,0 +1,55 @@
+use Rattle.release.proofs.Releases.{jump-own, jump-away, released-steps}
+use Rattle.touch.proofs.Plans.{still-steps}
+use Rattle.touch.proofs.Ready.{ready}
+use Rattle.rules.specs.Tests.{ownCode}
+use Rattle.rules.specs.Plan.{nothing}
+use Rattle.events.specs.declared.Answer.the-variants as answer
+use Rattle.state.proofs.Shaped.{state-shape}
+use Rattle.state.specs.Face.{faceOf}
+use Rattle.geometry.specs.Geometry.{pageOf}
+use Prim.Native.Nat.{_/_}
+use mathlib.Core.Bool.{Bool, true, false, _&&_}
+use mathlib.Core.Path.{_≡_, refl, sym, ap, _∙_}
+use borrow.Author.Needs.{needs}
+use native.Mathlib.Omega.{arith}
+use Rattle.release.proofs.jump.jump_secure.Statement.{statement}
+use Rattle.release.proofs.jump.jump_secure.Tie as tie
+
+is-own-requires : tie.Need-is-own-requires
+is-own-requires c κs = c .before .before .before .before .pre .1
+
+in-code-of-requires : tie.Need-in-code-of-requires
+in-code-of-requires c κs = let z = c .before .before .before .before .before in (ready (z .args .t1) _ (z .pre .0), z .pre .1)
+
+returns : tie.Need-returns
+returns c = λ payload.
+    let z = c .before .before .before .before .before .before .before in
+    let a = z .args in
+    let o : ownCode (faceOf (a .t1)) (a .k) (pageOf (a .address)) ≡ true = sym (λ i. c .before .before .is-own .ensures i && c .before .in-code-of .ensures i) ∙ c .if1 .taken in
+    rw (jump-own (faceOf (a .t1)) (a .address) (a .k) o)
+    (still-steps (a .t1) (state-shape (a .t1) _ (z .good .0) .slots-long) nothing answer.Done payload (a .memory .now))
+
+release-requires : tie.Need-release-requires
+release-requires c κs = c .before .before .before .before .before .before .before .before .pre
+
+same-length : tie.Need-same-length
+same-length c = search needs
+
+returns-2 : tie.Need-returns-2
+returns-2 c = λ payload.
+    let z = c .before .before .before .before .before .before .before .before .before .before .before in
+    let a = z .args in
+    let o : ownCode (faceOf (a .t1)) (a .k) (pageOf (a .address)) ≡ false = sym (λ i. c .before .before .before .before .before .before .is-own .ensures i && c .before .before .before .before .before .in-code-of .ensures i) ∙ c .before .before .before .before .if1 .left in
+    rw (jump-away (faceOf (a .t1)) (a .address) (a .k) o)
+    (released-steps (a .t1) (a .k) (state-shape (a .t1) _ (z .good .0) .slots-long) (z .pre .1) (answer.Terminated (a .k)) payload (a .memory .now) _ (c .before .before .release .result) (c .before .before .release .ensures .0) (c .before .before .release .ensures .1))
+
+pub jump-secure-spec : {M : Type 1} → statement M
+jump-secure-spec =
+    tie.close
+    (tie.spec
+    is-own-requires
+    in-code-of-requires
+    returns
+    release-requires
+    same-length
+    returns-2)

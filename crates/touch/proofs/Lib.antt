@@ -1,0 +1,3 @@
+pub mod Ranges
+pub mod Ready
+pub mod Plans

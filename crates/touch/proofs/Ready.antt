@@ -1,0 +1,79 @@
+-- What a well-formed state gives to the events' code.
+use Prim.Native.Nat.{ℕ, _+_, _≤_, _<_}
+use native.Mathlib.Omega.{arith}
+use mathlib.Core.Path.{_≡_, refl, sym, ap, subst, _∙_}
+use mathlib.Core.Bool.{true, false, _&&_}
+use mathlib.Core.List.{List, []}
+use lib.ListN.{length, getD}
+use lib.Dec.{eqb}
+use borrow.Author.Tests.{eqb-true}
+use Rattle.lists.proofs.Logic.{and-l, and-r, decided}
+use Rattle.geometry.specs.Geometry.{mostPages, slotCount, pcrCount, digestSize, startOf}
+use Rattle.fields.specs.Fields.{fieldsOf}
+use Rattle.fields.specs.declared.Fields.{Fields}
+use Rattle.fields.specs.Rules.{inCode}
+use Rattle.fields.proofs.Facts.{Kept, kept}
+use Rattle.state.specs.declared.Mode.{Mode}
+use Rattle.state.specs.declared.Mode.the-variants.{Legacy, Secure}
+use Rattle.state.specs.declared.State.{State}
+use Rattle.state.specs.Zero.{noSlot, noPcr, zeroRunning}
+use Rattle.state.specs.Face.{Face, faceOf, cardAt}
+use Rattle.state.proofs.Shape.{StateShape, DigestShape, slot-in, each-in}
+use Rattle.state.proofs.Faces.{card-at}
+use Rattle.wellformed.specs.WellFormed.{modeRight, cardZero, stateRight, wellFormed}
+use Rattle.wellformed.proofs.Facts.{Right, right-of, card-rules, card-free}
+use Rattle.wellformed.proofs.Runs.{Runs, secure-hold, legacy-hold}
+use Rattle.wellformed.proofs.States.{state-face, well-state, well-long}
+
+module _ (s : State) (h : stateRight s ≡ true) where
+  pub right : Right (faceOf s)
+  right = right-of (faceOf s) (state-face s h)
+
+  pub few-pages : s .pages ≤ mostPages
+  few-pages = right .sizes .most
+
+  -- in secure mode the mode's slot is registered, and the record is its own
+  pub runs-in : (k : ℕ) → s .mode ≡ Secure k → Runs (faceOf s) k (s .running)
+  runs-in k e = secure-hold (faceOf s) k (subst (λ (m : Mode). modeRight (faceOf s) m ≡ true) e (right .mode))
+
+  pub mode-below : (k : ℕ) → s .mode ≡ Secure k → k < slotCount
+  mode-below k e = runs-in k e .below
+
+  -- in legacy mode the record is zero
+  pub none-runs : s .mode ≡ Legacy → s .running ≡ zeroRunning
+  none-runs e = legacy-hold (faceOf s) (subst (λ (m : Mode). modeRight (faceOf s) m ≡ true) e (right .mode))
+
+  -- a registered slot keeps the manifest's rules
+  pub kept-in : (k : ℕ) → k < slotCount → cardAt (faceOf s) k .registered ≡ true → Kept (cardAt (faceOf s) k .fields)
+  kept-in k l e = kept (cardAt (faceOf s) k .fields) (card-rules (cardAt (faceOf s) k) _ (right .cards k l) e)
+
+  pub few-runs : (k : ℕ) → k < slotCount → cardAt (faceOf s) k .fields .r ≤ 4
+  few-runs k l =
+      let x = cardAt (faceOf s) k in
+      decided (x .registered)
+      (λ e. kept-in k l e .bounds .few-runs)
+      (λ e. let z = card-free x _ (right .cards k l) e in
+      let q = eqb-true (x .fields .r) 0 (and-l (eqb (x .fields .r) 0) _ (and-l (eqb (x .fields .r) 0 && eqb (x .fields .e) 0) _ (and-r (eqb (x .mark) 0) _ z))) in
+      omega arith)
+
+  -- the same, as the code finds the slot
+  pub few-runs-in : (k : ℕ) → k < slotCount → getD (s .slots) k noSlot .card .fields .r ≤ 4
+  few-runs-in k l = subst (λ x. x .fields .r ≤ 4) (card-at (s .slots) k) (few-runs k l)
+
+-- the memory's length
+pub ready : (s : State) (n : ℕ) → wellFormed s n ≡ true → stateRight s ≡ true
+ready s n h = well-state s n h
+
+pub long : (s : State) (n : ℕ) → wellFormed s n ≡ true → n ≡ startOf (s .pages)
+long s n h = well-long s n h
+
+-- code pages go by the runs alone
+pub code-alone : (x : Fields) (p : ℕ) → inCode (fieldsOf (x .r) 0 (x .runs) []) p ≡ inCode x p
+unfolding inCode
+code-alone x p = refl
+
+-- a µPCR has its length
+pub pcr-long : (s : State) → StateShape s → (k i : ℕ) → k < slotCount → i < pcrCount → length (getD (getD (s .slots) k noSlot .pcrs) i noPcr .bytes) ≡ digestSize
+pcr-long s g k i l m =
+    let x = slot-in s g k l in
+    each-in DigestShape noPcr (getD (s .slots) k noSlot .pcrs) (x .pcrs) i (rw (x .pcrs-long) m) .long

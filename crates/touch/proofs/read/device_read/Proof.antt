@@ -1,0 +1,26 @@
+use Rattle.touch.proofs.Ready.{ready, long}
+use Rattle.rules.specs.Tests.{device}
+use Rattle.state.specs.Face.{faceOf, pcrsOf}
+use mathlib.Core.Path.{_≡_, refl, sym}
+use borrow.Author.Needs.{needs}
+use Rattle.touch.proofs.read.device_read.Statement.{statement}
+use Rattle.touch.proofs.read.device_read.Tie as tie
+use Rattle.touch.proofs.read.device_read.Reads as reads
+use Rattle.touch.proofs.read.device_read.Lts as lts
+use Rattle.touch.proofs.pages.device_may.Reads as device-may-reads
+use Rattle.touch.proofs.read.give.Reads as give-reads
+
+device-may-requires : tie.Need-device-may-requires
+device-may-requires c κs = ready _ _ (c .before .before .pre)
+
+give-requires : tie.Need-give-requires
+give-requires c κs = long _ _ (c .before .before .before .before .pre)
+
+same-length : tie.Need-same-length
+same-length c = search needs
+
+returns : tie.Need-returns
+returns c = let s = c .before .before .before .before .before .before .before .args .s in c .before .before .give .ensures (s .mode) (faceOf s) device (pcrsOf s) refl (sym (c .before .before .before .before .device-may .ensures))
+
+pub device-read-spec : {M : Type 1} → statement M
+device-read-spec = tie.close (tie.spec device-may-requires give-requires same-length returns)

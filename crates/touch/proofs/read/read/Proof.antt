@@ -1,0 +1,26 @@
+use Rattle.touch.proofs.Ready.{ready, long}
+use Rattle.rules.specs.Tests.{read}
+use Rattle.state.specs.Face.{faceOf, pcrsOf}
+use mathlib.Core.Path.{_≡_, refl, sym}
+use borrow.Author.Needs.{needs}
+use Rattle.touch.proofs.read.read.Statement.{statement}
+use Rattle.touch.proofs.read.read.Tie as tie
+use Rattle.touch.proofs.read.read.Reads as reads
+use Rattle.touch.proofs.read.read.Lts as lts
+use Rattle.touch.proofs.pages.may_read.Reads as may-read-reads
+use Rattle.touch.proofs.read.give.Reads as give-reads
+
+may-read-requires : tie.Need-may-read-requires
+may-read-requires c κs = ready _ _ (c .before .before .pre)
+
+give-requires : tie.Need-give-requires
+give-requires c κs = long _ _ (c .before .before .before .before .pre)
+
+same-length : tie.Need-same-length
+same-length c = search needs
+
+returns : tie.Need-returns
+returns c = let s = c .before .before .before .before .before .before .before .args .s in c .before .before .give .ensures (s .mode) (faceOf s) read (pcrsOf s) refl (sym (c .before .before .before .before .may-read .ensures))
+
+pub read-spec : {M : Type 1} → statement M
+read-spec = tie.close (tie.spec may-read-requires give-requires same-length returns)

@@ -1,0 +1,26 @@
+use Rattle.touch.proofs.Ready.{ready, long}
+use Rattle.rules.specs.Tests.{device}
+use Rattle.state.specs.Face.{faceOf}
+use mathlib.Core.Path.{_≡_, refl, sym}
+use borrow.Author.Needs.{needs}
+use Rattle.touch.proofs.write.device_write.Statement.{statement}
+use Rattle.touch.proofs.write.device_write.Tie as tie
+use Rattle.touch.proofs.write.device_write.Reads as reads
+use Rattle.touch.proofs.write.device_write.Lts as lts
+use Rattle.touch.proofs.pages.device_may.Reads as device-may-reads
+use Rattle.touch.proofs.write.take.Reads as take-reads
+
+device-may-requires : tie.Need-device-may-requires
+device-may-requires c κs = ready _ _ (c .before .before .pre)
+
+take-requires : tie.Need-take-requires
+take-requires c κs = long _ _ (c .before .before .before .before .pre)
+
+same-length : tie.Need-same-length
+same-length c = search needs
+
+returns : tie.Need-returns
+returns c = let s = c .before .before .before .before .before .before .before .args .s in c .before .before .take .ensures (s .mode) (faceOf s) device refl (sym (c .before .before .before .before .device-may .ensures))
+
+pub device-write-spec : {M : Type 1} → statement M
+device-write-spec = tie.close (tie.spec device-may-requires take-requires same-length returns)

@@ -1,0 +1,26 @@
+use Rattle.touch.proofs.Ready.{ready, long}
+use Rattle.rules.specs.Tests.{write}
+use Rattle.state.specs.Face.{faceOf}
+use mathlib.Core.Path.{_≡_, refl, sym}
+use borrow.Author.Needs.{needs}
+use Rattle.touch.proofs.write.write.Statement.{statement}
+use Rattle.touch.proofs.write.write.Tie as tie
+use Rattle.touch.proofs.write.write.Reads as reads
+use Rattle.touch.proofs.write.write.Lts as lts
+use Rattle.touch.proofs.pages.may_write.Reads as may-write-reads
+use Rattle.touch.proofs.write.take.Reads as take-reads
+
+may-write-requires : tie.Need-may-write-requires
+may-write-requires c κs = ready _ _ (c .before .before .pre)
+
+take-requires : tie.Need-take-requires
+take-requires c κs = long _ _ (c .before .before .before .before .pre)
+
+same-length : tie.Need-same-length
+same-length c = search needs
+
+returns : tie.Need-returns
+returns c = let s = c .before .before .before .before .before .before .before .args .s in c .before .before .take .ensures (s .mode) (faceOf s) write refl (sym (c .before .before .before .before .may-write .ensures))
+
+pub write-spec : {M : Type 1} → statement M
+write-spec = tie.close (tie.spec may-write-requires take-requires same-length returns)
