@@ -11,8 +11,12 @@ def instructions(emulator, program, row, monitor, times):
     read, write = os.pipe()
     with subprocess.Popen([emulator, "-one-insn-per-tb", "-d", "nochain,exec", "-D", f"/dev/fd/{write}", program, "count", str(row), monitor, str(times)], pass_fds=[write]) as run:
         os.close(write)
+        count, last = 0, b""
         with open(read, "rb", buffering=1 << 20) as log:
-            count = sum(line.startswith(b"Trace") for line in log)
+            for line in log:
+                at = line.split(b"/", 2)[1] if line.startswith(b"Trace") else last
+                count += at != last  # one after the other at one place: a string instruction's repetitions
+                last = at
     if run.returncode != 0:
         sys.exit(f"row {row} could not be counted")
     return count

@@ -92,7 +92,7 @@ unfolding restAfter restOf
 rest-few l zero = omega arith
 rest-few l (suc k) = omega (arith, rest-few l k, length-drop (fieldEnd (restAfter l k) + 1) (restAfter l k))
 
-field-few : (l : List ℕ) (k : ℕ) → length (field l k) ≤ length l
+pub field-few : (l : List ℕ) (k : ℕ) → length (field l k) ≤ length l
 unfolding field
 field-few l k = omega (arith, rest-few l k, length-take (fieldEnd (restAfter l k)) (restAfter l k))
 

@@ -1,0 +1,31 @@
+#!/bin/bash
+# Compares an event over the lent state (monitor_event) with the same by value (the function it calls), in one run: prints ns and ratios. The aim is
+# at most 1.2. No part of the gate: a time is no test.
+set -eu
+cd "$(dirname "$0")/.."
+work=target/bench/host
+rm -rf "$work"
+mkdir -p "$work/target"
+for part in target/*; do # what is proved already need not be proved again
+    case $part in target/bench | target/must-fail) ;; *) cp -r "$part" "$work/target/" ;; esac
+done
+cp -r crates crates.txt bench/host.c host/monitor.h "$work"
+cd "$work"
+
+install() { # COMMAND PACKAGE: from Debian's packages, where the command is not there
+    command -v "$1" >/dev/null || { apt-get update -qq && apt-get install -y -qq "$2" >/dev/null; }
+}
+gcc=gcc run=''
+if [ "$(uname -m)" != x86_64 ]; then
+    echo "This machine is no x86-64: the code runs under an emulator, and only the ratios say something."
+    gcc=x86_64-linux-gnu-gcc run=qemu-x86_64-static
+    install "$gcc" gcc-x86-64-linux-gnu
+    install "$run" qemu-user-static
+fi
+install "$gcc" gcc
+
+# the same code and proofs, the function by value given a name that C can call
+sed -i -E 's/^fn stepped\(/#[no_mangle]\npub extern "C" fn stepped(/; s/^pub struct Outcome/#[repr(C)]\npub struct Outcome/' crates/host/src/lib.rt
+rt staticlib host >staticlib.log 2>&1 || { tail -n 5 staticlib.log; exit 1; }
+"$gcc" -O2 -static -I. host.c target/staticlib/libhost.a -o host
+$run ./host

@@ -1,0 +1,3 @@
+pub mod Twin
+pub mod Asked
+pub mod Promise
