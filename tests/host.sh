@@ -18,6 +18,10 @@ if [ "$(uname -m)" != x86_64 ]; then
 fi
 install "$gcc" gcc
 install clang clang
+if [ "$sanitizers" = address,undefined ]; then # clang's own library of the sanitizer is a package of its own
+    echo 'int main(void) { return 0; }' | clang -x c -fsanitize=address -o /dev/null - 2>/dev/null ||
+        { apt-get update -qq && apt-get install -y -qq "libclang-rt-$(clang -dumpversion | cut -d. -f1)-dev"; } >/dev/null
+fi
 room=$(mktemp -d)
 trap 'rm -rf "$room"' EXIT
 flags=(-std=c11 -D_GNU_SOURCE -Wall -Wextra -Werror -Wno-unused-function -Itarget/host)

@@ -1,10 +1,7 @@
 // The line program: standard input to standard output, on P=8, M=1, zeroed memory and a 4,096-byte answer buffer (document 01, "The line program").
-use events::Answer;
 use libc::STDIN_FILENO;
 use libc::STDOUT_FILENO;
-use lines::Line;
 use state::State;
-use touch::Stepped;
 ghost use Prim.Native.Nat.{_≤_};
 ghost use lib.ListN.{length};
 
@@ -20,35 +17,6 @@ fn least(a: usize, b: usize) -> usize
     ensures { λ r. ⌜ (r ≤ a) × (r ≤ b) ⌝ }
 {
     if a < b { a } else { b }
-}
-
-// One line: what is not readable is `no 11`, and changes nothing.
-fn step_line(
-    line: &[u8],
-    count: usize,
-    s: State,
-    payload: &mut [u8],
-    memory: &mut [u8],
-    buffer: &mut [u8],
-) -> Stepped
-    requires { ⌜ 1000 ≤ length (now payload) ⌝ }
-{
-    if line.len() < count {
-        return Stepped {
-            answer: Answer::Refused(11),
-            state: s,
-        };
-    }
-    match lines::read_line(&line[0..count], payload) {
-        Line::Said { event, length } => {
-            let n = least(length, payload.len());
-            monitor::step(event, &payload[0..n], s, memory, buffer)
-        }
-        Line::Unreadable => Stepped {
-            answer: Answer::Refused(11),
-            state: s,
-        },
-    }
 }
 
 // The place after n bytes more, of so many at most.
@@ -78,7 +46,7 @@ fn answered(
         return desk;
     }
     let before = desk.state;
-    let stepped = step_line(line, desk.count, before, payload, memory, buffer);
+    let stepped = desk::hear_kept(line, desk.count, before, payload, memory, buffer);
     let answer = stepped.answer;
     let after = stepped.state;
     let used = least(desk.used, out.len());

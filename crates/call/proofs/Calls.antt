@@ -1,29 +1,29 @@
 -- What call and return ask of the state, and the ends of their rules.
-use Prim.Native.Nat.{ℕ, _+_, _*_, _≤_, _<_}
+use Prim.Native.Nat.{ℕ, _+_, _≤_, _<_}
 use native.Mathlib.Omega.{arith}
 use mathlib.Core.Path.{_≡_, refl, sym, ap, subst, _∙_}
-use mathlib.Core.Logic.{_⊎_, inl, inr, ⊎-elim, _≢_}
-use mathlib.Core.Bool.{Bool, true, false, _&&_, _||_}
+use mathlib.Core.Logic.{⊎-elim}
+use mathlib.Core.Bool.{Bool, true, false, _&&_}
 use mathlib.Core.List.{List, []}
 use native.Mathlib.Decide.{ℕ-discrete}
 use lib.ListN.{length, getD}
 use lib.Seq.{sets}
 use lib.Dec.{ltb, eqb}
-use borrow.Author.Tests.{eqb-true, eq-eqb, ne-eqb, ltb-true}
-use Rattle.lists.specs.Below.{pick, any-below}
+use borrow.Author.Tests.{eqb-true, ltb-true}
+use Rattle.lists.specs.Below.{any-below}
 use Rattle.lists.specs.Bytes.{part}
 use Rattle.lists.proofs.Logic.{and-l, and-r, or-cases, decided}
-use Rattle.lists.proofs.Any.{Found, any-find, any-hit}
+use Rattle.lists.proofs.Any.{any-find, any-hit}
 use Rattle.lists.proofs.First.{first-at}
 use Rattle.lists.proofs.Parts.{part-none}
-use Rattle.geometry.specs.Geometry.{pageSize, slotCount, halfPage, isRange, pageOf, startOf}
+use Rattle.geometry.specs.Geometry.{slotCount, halfPage, isRange, pageOf, startOf}
 use Rattle.fields.specs.declared.Entry.{Entry}
 use Rattle.fields.specs.declared.Fields.{Fields}
 use Rattle.fields.specs.Rules.{keepsRules}
-use Rattle.fields.specs.Fields.{fieldsOf, entryPlaces, entryAt, runAt}
+use Rattle.fields.specs.Fields.{fieldsOf, entryPlaces, entryAt}
 use Rattle.fields.specs.Pages.{isParamAt, paramOf}
-use Rattle.fields.proofs.Facts.{Kept, kept}
-use Rattle.fields.proofs.PageLaws.{Param, param, param-page}
+use Rattle.fields.proofs.Facts.{kept}
+use Rattle.fields.proofs.PageLaws.{param, param-page}
 use Rattle.state.specs.declared.Found.the-variants as found
 use Rattle.state.specs.Slots.{entryFound}
 use Rattle.state.specs.declared.Card.{Card}
@@ -37,9 +37,9 @@ use Rattle.state.specs.Face.{Face, faceOf, pcrsOf, cardAt, isOpen, stateOf}
 use Rattle.state.proofs.Faces.{card-at, slots-back}
 use Rattle.wellformed.specs.WellFormed.{stateRight, wellFormed, outputAt, outRight}
 use Rattle.wellformed.proofs.Facts.{card-rules, card-free, held-under}
-use Rattle.wellformed.proofs.Runs.{Runs, out-none, out-range}
+use Rattle.wellformed.proofs.Runs.{out-none, out-range}
 use Rattle.events.specs.declared.Answer.the-variants as answer
-use Rattle.rules.specs.Plan.{Plan, refuse}
+use Rattle.rules.specs.Plan.{refuse}
 use Rattle.rules.specs.Tests.{inRange, unlooked, keptAs, underMark, entryOf, callableAt, slotFor, withMode}
 use Rattle.rules.specs.Decide.{callRule, callEntry, entryFor, entered, returnRule, outFrom}
 use Rattle.touch.specs.Carried.{Steps}

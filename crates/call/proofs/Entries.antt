@@ -1,16 +1,16 @@
 -- The entry that the slot's method finds is the rules' entry, and the param page is where the code finds it.
-use Prim.Native.Nat.{ℕ, _+_, _≤_, _<_}
+use Prim.Native.Nat.{ℕ, _≤_, _<_}
 use native.Mathlib.Omega.{arith}
-use mathlib.Core.Path.{_≡_, refl, sym, ap, subst, _∙_}
-use mathlib.Core.Bool.{Bool, true, false, _&&_, and-false, false≢true}
-use mathlib.Core.Logic.{_⊎_, inl, inr, ⊎-elim}
+use mathlib.Core.Path.{_≡_, sym, ap, _∙_}
+use mathlib.Core.Bool.{Bool, true, false, and-false, false≢true}
+use mathlib.Core.Logic.{⊎-elim}
 use mathlib.Core.List.{List, []}
 use lib.ListN.{getD}
-use lib.Dec.{ltb, eqb}
-use borrow.Author.Tests.{lt-ltb, le-ltb, ltb-true, ltb-false}
-use Rattle.lists.specs.Below.{pick, any-below, first-below}
-use Rattle.lists.proofs.Logic.{and-l, and-r, both, decided, lt-or-ge}
-use Rattle.lists.proofs.Any.{Found, any-find, any-hit}
+use lib.Dec.{ltb}
+use borrow.Author.Tests.{lt-ltb, le-ltb, ltb-true}
+use Rattle.lists.specs.Below.{any-below, first-below}
+use Rattle.lists.proofs.Logic.{both, lt-or-ge}
+use Rattle.lists.proofs.Any.{any-find}
 use Rattle.lists.proofs.First.{first-le, first-at, first-before, first-hit, first-end}
 use Rattle.fields.specs.declared.Run.{Run}
 use Rattle.fields.specs.declared.Entry.{Entry}

@@ -5,7 +5,6 @@ use fields::Entry;
 use geometry::Geometry;
 use state::Found;
 use state::Mode;
-use state::Running;
 use state::State;
 use touch::Stepped;
 use touch::pages;
@@ -20,25 +19,23 @@ ghost use Rattle.wellformed.specs.WellFormed.{stateRight, wellFormed};
 ghost use Rattle.rules.specs.Tests.{unlooked, inRange};
 ghost use Rattle.rules.specs.Decide.{callRule, callEntry};
 ghost use Rattle.release.specs.Release.{inMode};
+ghost use Rattle.switch.specs.Record.{enteredRecord};
 ghost use Rattle.touch.specs.Carried.{Acts};
 
-// The call runs in slot k, with its record.
+// The call runs in slot k, with the record that entering leaves.
 fn entered(s: State, k: usize, out: usize, n: usize) -> State
-    ensures { λ r. ⌜ r ≡ inMode s (Mode.Secure k) (record { slot = k; out = out; length = n }) ⌝ }
+    ensures { λ r. ⌜ r ≡ inMode s (Mode.Secure k) (enteredRecord k out n) ⌝ }
 {
     let owner = s.owner;
     let slots = s.slots;
+    let running = switch::entering(k, out, n);
     State {
         pages: s.pages,
         kept: s.kept,
         owner: owner,
         slots: slots,
         mode: Mode::Secure(k),
-        running: Running {
-            slot: k,
-            out: out,
-            length: n,
-        },
+        running: running,
     }
 }
 
@@ -104,7 +101,7 @@ fn call_entry(
     );
     Stepped {
         answer: Answer::Entered(k),
-        state: entered(s, k, places::kept_as(m, output), m),
+        state: entered(s, k, output, m),
     }
 }
 

@@ -1,5 +1,5 @@
 -- The contents of pages, run after run, as the hash takes them in.
-use Prim.Native.Nat.{ℕ, zero, suc, _+_, _-_, _*_, _%_, _≤_, _<_}
+use Prim.Native.Nat.{ℕ, zero, suc, _+_, _-_, _*_, _%_, _≤_}
 use native.Mathlib.Omega.{arith}
 use native.Mathlib.Nat.{add-mul, zero-mul}
 use mathlib.Core.Path.{_≡_, refl, sym, ap, subst, _∙_}
@@ -10,7 +10,6 @@ use Rattle.lists.specs.Below.{table, joined}
 use Rattle.lists.specs.Bytes.{part, counted, gather}
 use Rattle.lists.proofs.Tables.{joined-more}
 use Rattle.lists.proofs.Parts.{part-none, part-lent, part-long}
-use Rattle.lists.proofs.Pages.{counted-more}
 use Rattle.sha1.specs.declared.Hashing.{Hashing}
 use Rattle.sha1.specs.Parts.{takenIn, finishedOf, Holds}
 use Rattle.sha1.specs.Sha1.{sha1}

@@ -2,13 +2,12 @@
 use Prim.Native.Nat.{ℕ, _+_, _-_, _≤_, _<_}
 use native.Mathlib.Omega.{arith}
 use mathlib.Core.Path.{_≡_, refl, sym, ap, subst, _∙_}
-use mathlib.Core.Bool.{Bool, true, false, _&&_, _||_, not}
-use mathlib.Core.List.{List, []}
-use lib.ListN.{getD}
-use lib.Dec.{leb, ltb, eqb}
-use borrow.Author.Tests.{leb-true, ltb-true, eqb-true, le-leb, lt-ltb, eq-eqb}
-use Rattle.lists.specs.Below.{all-below, any-below}
-use Rattle.lists.proofs.Logic.{and-l, and-r, both, or-right, decided, iff}
+use mathlib.Core.Bool.{Bool, true, _&&_}
+use mathlib.Core.List.{[]}
+use lib.Dec.{ltb, eqb}
+use borrow.Author.Tests.{leb-true, ltb-true, le-leb, lt-ltb}
+use Rattle.lists.specs.Below.{all-below}
+use Rattle.lists.proofs.Logic.{and-l, and-r, both, decided, iff}
 use Rattle.lists.proofs.All.{all-at, all-of}
 use Rattle.lists.proofs.Any.{Found, any-find, any-hit}
 use Rattle.geometry.specs.Geometry.{mostPages}
@@ -17,7 +16,7 @@ use Rattle.fields.specs.Fields.{fieldsOf, runAt, endOf}
 use Rattle.fields.specs.Rules.{holds}
 use Rattle.fields.specs.Pages.{holdsAt, hasPage, underAt, pagesUnder}
 use Rattle.fields.proofs.Facts.{Kept}
-use Rattle.fields.proofs.PageLaws.{Held, held, holds-of}
+use Rattle.fields.proofs.PageLaws.{held, holds-of}
 use Rattle.painting.specs.Painting.{RunsFit, ownedFrom, ownedRun}
 use Rattle.state.specs.Face.{Face, ownerAt, isOpen}
 use Rattle.rules.specs.Tests.{openIfNamed, allOpen}

@@ -1,19 +1,18 @@
 -- The ends of register's rule, and that the state after it is the rule's.
-use Prim.Native.Nat.{ℕ, _+_, _≤_, _<_}
+use Prim.Native.Nat.{ℕ, _+_, _<_}
 use native.Mathlib.Omega.{arith}
 use mathlib.Core.Path.{_≡_, refl, sym, ap, subst, _∙_}
-use mathlib.Core.Bool.{Bool, true, false, _&&_}
-use mathlib.Core.List.{List, [], _++_}
-use lib.ListN.{length, getD, set}
+use mathlib.Core.Bool.{true, false}
+use mathlib.Core.List.{List, _++_}
+use lib.ListN.{length, set}
 use lib.Dec.{ltb, eqb}
-use Rattle.lists.specs.Below.{pick, all-below}
+use Rattle.lists.specs.Below.{all-below}
 use Rattle.lists.specs.Bytes.{gather}
 use Rattle.lists.proofs.Logic.{and-r, decided}
 use Rattle.geometry.specs.Geometry.{pageSize, slotCount, startOf}
 use Rattle.sha1.specs.declared.Digest.{Digest}
 use Rattle.sha1.specs.Sha1.{sha1}
 use Rattle.fields.specs.declared.Fields.{Fields}
-use Rattle.fields.specs.Fields.{runAt, endOf}
 use Rattle.fields.specs.Rules.{keepsRules}
 use Rattle.fields.specs.Pages.{pagesOf}
 use Rattle.fields.proofs.Facts.{Kept, kept}
@@ -21,15 +20,15 @@ use Rattle.manifest.specs.declared.Reading.{Reading}
 use Rattle.manifest.specs.Reader.{trailed, runsIn, blankAt, fieldsIn, accepts, refusedReading, readManifest}
 use Rattle.state.specs.declared.Slot.{Slot}
 use Rattle.state.specs.declared.State.{State}
-use Rattle.state.specs.Zero.{zeroPcr, noPcr}
+use Rattle.state.specs.Zero.{zeroPcr}
 use Rattle.state.specs.Face.{Face, faceOf, pcrsOf, stateOf}
 use Rattle.state.specs.Slots.{extendedPcrs}
 use Rattle.state.proofs.Faces.{state-set}
 use Rattle.events.specs.declared.Answer.the-variants as answer
-use Rattle.rules.specs.Plan.{Plan, refuse}
+use Rattle.rules.specs.Plan.{refuse}
 use Rattle.rules.specs.Tests.{given, withCard, allOpen, freeSlot}
 use Rattle.rules.specs.Decide.{registerRule, registered}
-use Rattle.rules.specs.Act.{zeroPcrs, extendedBy, measured}
+use Rattle.rules.specs.Act.{zeroPcrs, measured}
 use Rattle.touch.specs.Carried.{Steps}
 use Rattle.touch.proofs.Plans.{pass, stop}
 use Rattle.release.specs.Release.{RunsIn}

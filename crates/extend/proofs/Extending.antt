@@ -1,14 +1,12 @@
 -- The ends of extend's rule, and that the state after it is the rule's.
-use Prim.Native.Nat.{ℕ, _+_, _≤_, _<_}
-use native.Mathlib.Omega.{arith}
-use mathlib.Core.Path.{_≡_, refl, sym, ap, subst, _∙_}
-use mathlib.Core.Bool.{Bool, true, false}
+use Prim.Native.Nat.{ℕ, _<_}
+use mathlib.Core.Path.{_≡_, refl, sym, ap, _∙_}
+use mathlib.Core.Bool.{true, false}
 use mathlib.Core.List.{List, [], map, _++_}
 use lib.ListN.{length, getD, set}
 use lib.Seq.{set-getD}
 use lib.Dec.{ltb}
 use Rattle.lists.specs.Below.{table}
-use Rattle.lists.proofs.Parts.{part-none}
 use Rattle.geometry.specs.Geometry.{slotCount, pcrCount, startOf}
 use Rattle.memory.specs.declared.Source.{Source}
 use Rattle.memory.specs.declared.Source.the-variants.{Payload, Memory}
@@ -23,10 +21,10 @@ use Rattle.state.specs.Face.{Face, cardOf, pcrsIn, faceOf, pcrsOf, slotOf, stat
 use Rattle.state.specs.Slots.{extendedPcrs, extendedSlot}
 use Rattle.state.proofs.Faces.{card-at, pcrs-at, state-set}
 use Rattle.events.specs.declared.Answer.the-variants as answer
-use Rattle.rules.specs.Plan.{Plan, nothing, keep, extend, refuse, still}
+use Rattle.rules.specs.Plan.{nothing, keep, extend, refuse, still}
 use Rattle.rules.specs.Tests.{keptAs}
 use Rattle.rules.specs.Decide.{sourceRight, sourceReached, extendRule}
-use Rattle.rules.specs.Act.{extendedBy, extended, sealed}
+use Rattle.rules.specs.Act.{extended}
 use Rattle.touch.specs.Carried.{Steps}
 use Rattle.touch.proofs.Plans.{pass, stop}
 use Rattle.call.proofs.Calls.{kept-fits, kept-part}

@@ -1,7 +1,7 @@
 -- From what an event's function says to the outcome of its plan; and check 2.
-use Prim.Native.Nat.{ℕ, _<_}
-use mathlib.Core.Path.{_≡_, refl, sym, ap, subst, _∙_}
-use mathlib.Core.Bool.{Bool, true, false, not, false≢true}
+use Prim.Native.Nat.{ℕ}
+use mathlib.Core.Path.{_≡_, refl, sym, ap, _∙_}
+use mathlib.Core.Bool.{true, false, not, false≢true}
 use mathlib.Core.List.{List}
 use lib.ListN.{length}
 use Rattle.geometry.specs.Geometry.{slotCount}
@@ -18,11 +18,11 @@ use Rattle.events.specs.declared.Answer.{Answer}
 use Rattle.events.specs.declared.Answer.the-variants as answer
 use Rattle.events.specs.declared.Event.{Event}
 use Rattle.events.specs.declared.Event.the-variants.{Register, Unregister, Call, Return, Jump, Read, Write, DeviceRead, DeviceWrite, Extend, PcrRead}
-use Rattle.rules.specs.Plan.{Fetch, nothing, Store, keep, Seal, same, Plan, refuse, guard}
+use Rattle.rules.specs.Plan.{Fetch, nothing, Store, keep, Plan, refuse}
 use Rattle.rules.specs.Tests.{read, write, device}
 use Rattle.rules.specs.Decide.{ruleIn, decide, legacyOnly, secureOnly, byMode, registerRule, unregisterRule, callRule, returnRule, jumpLegacy, jumpSecure, readRule, writeRule, extendRule, pcrRule}
 use Rattle.memory.specs.declared.Source.{Source}
-use Rattle.rules.specs.Act.{Out, fetched, stored, sealed, act, planOf, step}
+use Rattle.rules.specs.Act.{fetched, stored, sealed, act, planOf, step}
 use Rattle.touch.specs.Carried.{Fills, Stores, Steps}
 use Rattle.touch.specs.declared.Stepped.{Stepped}
 use Rattle.touch.proofs.Plans.{pass, stop}

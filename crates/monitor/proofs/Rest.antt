@@ -1,8 +1,7 @@
 -- What each rule leaves alone, whatever it decides.
 use Prim.Native.Nat.{ℕ}
-use mathlib.Core.Path.{_≡_, refl, sym, ap, _∙_}
+use mathlib.Core.Path.{_≡_, refl, ap, _∙_}
 use mathlib.Core.Bool.{Bool, true, false}
-use lib.Dec.{leb, ltb, eqb}
 use Rattle.lists.proofs.Logic.{decided}
 use Rattle.geometry.specs.Geometry.{pageOf}
 use Rattle.memory.specs.declared.Source.{Source}
@@ -14,7 +13,7 @@ use Rattle.state.specs.Face.{Face}
 use Rattle.events.specs.declared.Answer.{Answer}
 use Rattle.events.specs.declared.Answer.the-variants as answer
 use Rattle.release.proofs.Releases.{jump-own, jump-away}
-use Rattle.rules.specs.Plan.{nothing, keep, same, Plan, refuse, guard, still}
+use Rattle.rules.specs.Plan.{nothing, keep, same, Plan, guard}
 use Rattle.rules.specs.Tests.{Access, ownCode}
 use Rattle.rules.specs.Decide.{released, registered, registerRule, unregisterRule, entered, callEntry, callRule, returnRule, jumpLegacy, jumpSecure, readRule, writeRule, extendRule, pcrRule, byMode}
 

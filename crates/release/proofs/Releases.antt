@@ -1,24 +1,22 @@
 -- What a release asks of the state, and that it is the rule's.
-use Prim.Native.Nat.{ℕ, _+_, _-_, _≤_, _<_}
+use Prim.Native.Nat.{ℕ, _-_, _≤_, _<_}
 use native.Mathlib.Omega.{arith}
 use mathlib.Core.Path.{_≡_, refl, sym, ap, subst, _∙_}
-use mathlib.Core.Bool.{Bool, true, false, _&&_}
+use mathlib.Core.Bool.{true, false, _&&_}
 use mathlib.Core.List.{List, []}
-use lib.ListN.{length, getD, set}
+use lib.ListN.{length, getD}
 use lib.Dec.{ltb, eqb}
 use borrow.Author.Tests.{eqb-true, leb-true}
-use Rattle.lists.specs.Below.{pick, all-below, table}
 use Rattle.lists.specs.Bytes.{wipe}
 use Rattle.lists.proofs.Logic.{and-l, and-r, decided, pick-true, pick-false}
 use Rattle.lists.proofs.All.{all-at}
-use Rattle.geometry.specs.Geometry.{pageSize, mostPages, slotCount, startOf, pageOf}
+use Rattle.geometry.specs.Geometry.{pageSize, slotCount, startOf, pageOf}
 use Rattle.fields.specs.declared.Fields.{Fields}
 use Rattle.fields.specs.Fields.{fieldsOf, runAt, endOf}
 use Rattle.fields.specs.Pages.{pagesOf, pagesUnder, underAt}
 use Rattle.state.specs.declared.Card.{Card}
 use Rattle.state.specs.declared.Slot.{Slot}
-use Rattle.state.specs.declared.Mode.{Mode}
-use Rattle.state.specs.declared.Mode.the-variants.{Legacy, Secure}
+use Rattle.state.specs.declared.Mode.the-variants.{Legacy}
 use Rattle.state.specs.declared.State.{State}
 use Rattle.state.specs.Zero.{noSlot, zeroSlot, zeroRunning}
 use Rattle.state.specs.Face.{Face, faceOf, pcrsOf, cardAt, stateOf, isOpen}
@@ -28,14 +26,14 @@ use Rattle.wellformed.proofs.Facts.{card-under, card-free}
 use Rattle.events.specs.declared.Answer.{Answer}
 use Rattle.events.specs.declared.Answer.the-variants as answer
 use Rattle.painting.specs.Painting.{RunsFit}
-use Rattle.rules.specs.Plan.{Plan, refuse, guard, still, nothing, keep, same}
+use Rattle.rules.specs.Plan.{Plan, refuse, still, nothing, keep, same}
 use Rattle.rules.specs.Tests.{given, withCard, underMark, mayReach, execute, ownCode}
 use Rattle.rules.specs.Decide.{released, unregisterRule, jumpLegacy, jumpSecure}
 use Rattle.rules.specs.Act.{sealed}
 use Rattle.touch.specs.Carried.{Steps}
 use Rattle.touch.proofs.Plans.{pass, stop, still-steps}
 use Rattle.touch.proofs.Ready.{right, few-pages, few-runs, ready, long}
-use Rattle.release.specs.Release.{RunsIn, freed, vacated}
+use Rattle.release.specs.Release.{RunsIn, vacated}
 
 -- ---- a slot's runs lie in memory
 

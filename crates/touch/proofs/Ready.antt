@@ -1,9 +1,9 @@
 -- What a well-formed state gives to the events' code.
-use Prim.Native.Nat.{ℕ, _+_, _≤_, _<_}
+use Prim.Native.Nat.{ℕ, _≤_, _<_}
 use native.Mathlib.Omega.{arith}
-use mathlib.Core.Path.{_≡_, refl, sym, ap, subst, _∙_}
-use mathlib.Core.Bool.{true, false, _&&_}
-use mathlib.Core.List.{List, []}
+use mathlib.Core.Path.{_≡_, refl, subst}
+use mathlib.Core.Bool.{true, _&&_}
+use mathlib.Core.List.{[]}
 use lib.ListN.{length, getD}
 use lib.Dec.{eqb}
 use borrow.Author.Tests.{eqb-true}
@@ -17,10 +17,10 @@ use Rattle.state.specs.declared.Mode.{Mode}
 use Rattle.state.specs.declared.Mode.the-variants.{Legacy, Secure}
 use Rattle.state.specs.declared.State.{State}
 use Rattle.state.specs.Zero.{noSlot, noPcr, zeroRunning}
-use Rattle.state.specs.Face.{Face, faceOf, cardAt}
+use Rattle.state.specs.Face.{faceOf, cardAt}
 use Rattle.state.proofs.Shape.{StateShape, DigestShape, slot-in, each-in}
 use Rattle.state.proofs.Faces.{card-at}
-use Rattle.wellformed.specs.WellFormed.{modeRight, cardZero, stateRight, wellFormed}
+use Rattle.wellformed.specs.WellFormed.{modeRight, stateRight, wellFormed}
 use Rattle.wellformed.proofs.Facts.{Right, right-of, card-rules, card-free}
 use Rattle.wellformed.proofs.Runs.{Runs, secure-hold, legacy-hold}
 use Rattle.wellformed.proofs.States.{state-face, well-state, well-long}

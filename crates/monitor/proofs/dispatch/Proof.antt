@@ -3,15 +3,12 @@ use Rattle.monitor.proofs.Rest.{register-nothing, unregister-nothing, c
 use Rattle.monitor.specs.Allowed.{allowed}
 use Rattle.touch.proofs.Ready.{ready, mode-below}
 use Rattle.rules.specs.Tests.{read, write, device}
-use Rattle.events.specs.declared.Event.{Event}
 use Rattle.state.proofs.Shaped.{state-shape}
 use Rattle.state.specs.Face.{faceOf, pcrsOf}
 use Rattle.manifest.specs.Reader.{readManifest}
 use lib.ListN.{length}
-use mathlib.Core.List.{List}
-use mathlib.Core.Path.{_≡_, refl, sym, ap, _∙_}
+use mathlib.Core.Path.{sym, ap, _∙_}
 use borrow.Author.Needs.{needs}
-use native.Mathlib.Omega.{arith}
 use Rattle.monitor.proofs.dispatch.Statement.{statement}
 use Rattle.monitor.proofs.dispatch.Tie as tie
 

@@ -4,9 +4,8 @@ use Rattle.state.specs.Face.{faceOf}
 use Rattle.manifest.specs.Reader.{readManifest}
 use lib.ListN.{length}
 use borrow.Author.Tests.{not-true, not-false}
-use mathlib.Core.Path.{_≡_, refl, sym, ap, _∙_}
+use mathlib.Core.Path.{refl, sym, _∙_}
 use borrow.Author.Needs.{needs}
-use native.Mathlib.Omega.{arith}
 use Rattle.monitor.proofs.step.Statement.{statement}
 use Rattle.monitor.proofs.step.Tie as tie
 

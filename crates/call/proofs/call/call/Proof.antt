@@ -2,24 +2,17 @@ use Rattle.fields.specs.declared.Entry.{Entry}
 use Rattle.call.proofs.Calls.{call-8, call-on, found-entry, found-some}
 use Rattle.touch.proofs.Plans.{to-plan}
 use Rattle.touch.proofs.Plans.{still-steps}
-use Rattle.touch.proofs.Ready.{ready, kept-in}
-use Rattle.touch.specs.Carried.{Steps}
+use Rattle.touch.proofs.Ready.{ready}
 use Rattle.rules.specs.Decide.{callEntry, entryFor}
-use Rattle.rules.specs.Tests.{underMark, entryOf, callableAt, slotFor}
-use Rattle.rules.specs.Plan.{Plan, nothing}
+use Rattle.rules.specs.Tests.{slotFor}
+use Rattle.rules.specs.Plan.{nothing}
 use Rattle.events.specs.declared.Answer.the-variants as answer
 use Rattle.state.proofs.Shaped.{state-shape}
-use Rattle.state.proofs.Faces.{card-at}
-use Rattle.state.specs.Face.{faceOf, cardAt, pcrsOf}
-use Rattle.state.specs.declared.Card.{Card}
+use Rattle.state.specs.Face.{faceOf, pcrsOf}
 use Rattle.geometry.specs.Geometry.{slotCount}
-use Rattle.lists.proofs.Logic.{and-l, and-r}
-use lib.Dec.{ltb, eqb}
-use Prim.Native.Nat.{ℕ, _<_}
-use borrow.Author.Tests.{lt-ltb, le-ltb, ltb-true}
-use mathlib.Core.List.{List}
-use mathlib.Core.Bool.{Bool, true, _&&_}
-use mathlib.Core.Path.{_≡_, refl, sym, ap, subst, _∙_}
+use Prim.Native.Nat.{ℕ}
+use borrow.Author.Tests.{lt-ltb, le-ltb}
+use mathlib.Core.Path.{_≡_, sym, ap, _∙_}
 use borrow.Author.Needs.{needs}
 use native.Mathlib.Omega.{arith}
 use Rattle.call.proofs.call.call.Statement.{statement}

@@ -1,20 +1,14 @@
 use Rattle.call.proofs.Calls.{in-4, out-4, in-5, out-5, enter-on, entered-steps, kept-fits, kept-part}
 use Rattle.touch.proofs.Plans.{still-steps}
-use Rattle.touch.proofs.Ready.{ready, long, few-pages}
-use Rattle.release.specs.Release.{inMode}
-use Rattle.rules.specs.Tests.{keptAs}
+use Rattle.touch.proofs.Ready.{ready, long}
 use Rattle.rules.specs.Plan.{nothing}
 use Rattle.events.specs.declared.Answer.the-variants as answer
 use Rattle.state.proofs.Shaped.{state-shape}
 use Rattle.state.specs.Face.{faceOf}
-use Rattle.state.specs.declared.Mode.the-variants.{Secure}
-use Rattle.state.specs.declared.State.{State}
 use Rattle.lists.specs.Bytes.{part}
 use lib.Seq.{sets}
-use Prim.Native.Nat.{ℕ}
 use borrow.Author.Tests.{not-true, not-false}
-use mathlib.Core.List.{List}
-use mathlib.Core.Path.{_≡_, refl, sym, ap, _∙_}
+use mathlib.Core.Path.{sym, ap, _∙_}
 use borrow.Author.Needs.{needs}
 use native.Mathlib.Omega.{arith}
 use Rattle.call.proofs.call.call_entry.Statement.{statement}
@@ -79,9 +73,6 @@ move-bytes-requires c κs =
     let f = kept-fits (a .s .pages) (a .input) (a .x .input) _ (long (a .s) _ (z .pre .0)) (sym (c .before .before .before .before .before .before .before .before .before .before .in-range .ensures) ∙ not-false _ (c .before .before .before .before .before .before .before .before .before .if1 .left)) in
     (omega (arith, c .before .kept-as .ensures, f), (omega (arith, c .param-start .ensures .0, c .param-start .ensures .1, long (a .s) _ (z .pre .0), z .pre .1 .1 .1), omega (arith, z .pre .1 .1 .1)))
 
-kept-as-requires-2 : tie.Need-kept-as-requires-2
-kept-as-requires-2 c κs = search needs
-
 entered-requires : tie.Need-entered-requires
 entered-requires c κs = search needs
 
@@ -90,13 +81,13 @@ same-length c = search needs
 
 returns-5 : tie.Need-returns-5
 returns-5 c = λ payload.
-    let z = c .before .before .before .before .before .before .before .before .before .before .before .before .before .before .before .before .before .before .before in
+    let z = c .before .before .before .before .before .before .before .before .before .before .before .before .before .before .before .before .before .before in
     let a = z .args in
-    let e = c .before .before .before .before .move-bytes .ensures
-    ∙ (λ i. sets (a .memory .now) (c .before .before .before .before .before .param-start .ensures .0 i) (part (a .memory .now) (c .before .before .before .before .before .before .kept-as .ensures i) (a .x .input)))
+    let e = c .before .before .before .move-bytes .ensures
+    ∙ (λ i. sets (a .memory .now) (c .before .before .before .before .param-start .ensures .0 i) (part (a .memory .now) (c .before .before .before .before .before .kept-as .ensures i) (a .x .input)))
     ∙ ap (sets (a .memory .now) _) (kept-part (a .memory .now) (a .input) (a .x .input)) in
-    let t = c .entered .ensures ∙ ap (λ (o : ℕ). inMode (a .s) (Secure (a .k)) (record { slot = a .k; out = o; length = a .x .output })) (c .before .kept-as2 .ensures) in
-    rw (enter-on (faceOf (a .s)) (a .k) (a .x) (a .input) (a .output) (sym (c .before .before .before .before .before .before .before .before .before .before .before .before .before .before .before .in-range .ensures) ∙ not-false _ (c .before .before .before .before .before .before .before .before .before .before .before .before .before .before .if1 .left)) (sym (c .before .before .before .before .before .before .before .before .before .before .before .before .before .in-range2 .ensures) ∙ not-false _ (c .before .before .before .before .before .before .before .before .before .before .before .before .if2 .left)) (sym (c .before .before .before .before .before .before .before .before .before .before .before .on-open .ensures) ∙ not-false _ (c .before .before .before .before .before .before .before .before .before .before .if3 .left)) (sym (c .before .before .before .before .before .before .before .before .before .on-open2 .ensures) ∙ not-false _ (c .before .before .before .before .before .before .before .before .if4 .left)))
+    let t = c .entered .ensures in
+    rw (enter-on (faceOf (a .s)) (a .k) (a .x) (a .input) (a .output) (sym (c .before .before .before .before .before .before .before .before .before .before .before .before .before .before .in-range .ensures) ∙ not-false _ (c .before .before .before .before .before .before .before .before .before .before .before .before .before .if1 .left)) (sym (c .before .before .before .before .before .before .before .before .before .before .before .before .in-range2 .ensures) ∙ not-false _ (c .before .before .before .before .before .before .before .before .before .before .before .if2 .left)) (sym (c .before .before .before .before .before .before .before .before .before .before .on-open .ensures) ∙ not-false _ (c .before .before .before .before .before .before .before .before .before .if3 .left)) (sym (c .before .before .before .before .before .before .before .before .on-open2 .ensures) ∙ not-false _ (c .before .before .before .before .before .before .before .if4 .left)))
     (entered-steps (a .s) (state-shape (a .s) _ (z .good .0) .slots-long) (a .k) (a .x) (a .input) (a .output) payload (a .memory .now) _ _ t e)
 
 pub call-entry-spec : {M : Type 1} → statement M
@@ -116,7 +107,6 @@ call-entry-spec =
     kept-as-requires
     param-start-requires
     move-bytes-requires
-    kept-as-requires-2
     entered-requires
     same-length
     returns-5)

@@ -1,8 +1,7 @@
 use lib.Dec.{eqb}
 use mathlib.Core.Bool.{Bool, _||_}
-use mathlib.Core.Path.{_≡_, ap}
+use mathlib.Core.Path.{ap}
 use borrow.Author.Needs.{needs}
-use native.Mathlib.Omega.{arith}
 use Rattle.call.proofs.call.in_range.Statement.{statement}
 use Rattle.call.proofs.call.in_range.Tie as tie
 

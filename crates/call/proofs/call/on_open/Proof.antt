@@ -1,8 +1,7 @@
 use Rattle.touch.proofs.Ready.{few-pages}
 use lib.Dec.{eqb}
 use mathlib.Core.Bool.{Bool, _||_}
-use mathlib.Core.Path.{_≡_, ap}
-use borrow.Author.Needs.{needs}
+use mathlib.Core.Path.{ap}
 use native.Mathlib.Omega.{arith}
 use Rattle.call.proofs.call.on_open.Statement.{statement}
 use Rattle.call.proofs.call.on_open.Tie as tie

@@ -1,9 +1,7 @@
 use Rattle.call.proofs.Entries.{at-below, nothing-none}
-use Rattle.rules.specs.Tests.{underMark, entryOf}
-use mathlib.Core.Bool.{Bool, true, false, _&&_}
-use mathlib.Core.Path.{_≡_, refl, sym, ap, _∙_}
+use mathlib.Core.Bool.{_&&_}
+use mathlib.Core.Path.{sym, _∙_}
 use borrow.Author.Needs.{needs}
-use native.Mathlib.Omega.{arith}
 use Rattle.call.proofs.places.callable.Statement.{statement}
 use Rattle.call.proofs.places.callable.Tie as tie
 

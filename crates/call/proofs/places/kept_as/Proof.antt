@@ -1,6 +1,4 @@
 use borrow.Author.Tests.{eq-eqb, ne-eqb}
-use borrow.Author.Needs.{needs}
-use native.Mathlib.Omega.{arith}
 use Rattle.call.proofs.places.kept_as.Statement.{statement}
 use Rattle.call.proofs.places.kept_as.Tie as tie
 

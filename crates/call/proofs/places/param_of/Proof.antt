@@ -5,10 +5,9 @@ use Rattle.lists.proofs.First.{first-none, first-more}
 use Rattle.lists.specs.Below.{first-below}
 use lib.ListN.{getD}
 use borrow.Author.Tests.{eq-eqb, ne-eqb}
-use Prim.Native.Nat.{ℕ, _≤_, _-_}
+use Prim.Native.Nat.{_≤_, _-_}
 use mathlib.Core.List.{[]}
-use mathlib.Core.Path.{_≡_, refl, sym, ap, _∙_}
-use borrow.Author.Needs.{needs}
+use mathlib.Core.Path.{_≡_}
 use native.Mathlib.Omega.{arith}
 use Rattle.call.proofs.places.param_of.Statement.{statement}
 use Rattle.call.proofs.places.param_of.Tie as tie

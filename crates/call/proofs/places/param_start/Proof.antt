@@ -5,7 +5,7 @@ use Rattle.state.proofs.Faces.{card-at}
 use Rattle.state.specs.declared.Card.{Card}
 use Rattle.fields.specs.Pages.{paramOf}
 use Prim.Native.Nat.{_*_}
-use mathlib.Core.Path.{_≡_, refl, sym, ap, _∙_}
+use mathlib.Core.Path.{sym, ap, _∙_}
 use borrow.Author.Needs.{needs}
 use native.Mathlib.Omega.{arith}
 use Rattle.call.proofs.places.param_start.Statement.{statement}

@@ -7,10 +7,9 @@ use Rattle.geometry.specs.Geometry.{slotCount}
 use Rattle.lists.proofs.First.{first-none, first-more, first-hit, first-end}
 use Rattle.lists.specs.Below.{first-below}
 use lib.Dec.{ltb}
-use Prim.Native.Nat.{ℕ, _≤_, _-_}
-use mathlib.Core.Bool.{Bool, true, false, _&&_}
-use mathlib.Core.Path.{_≡_, refl, sym, ap, _∙_}
-use borrow.Author.Needs.{needs}
+use Prim.Native.Nat.{_≤_, _-_}
+use mathlib.Core.Bool.{_&&_}
+use mathlib.Core.Path.{_≡_, sym, ap, _∙_}
 use native.Mathlib.Omega.{arith}
 use Rattle.call.proofs.places.slot_for.Statement.{statement}
 use Rattle.call.proofs.places.slot_for.Tie as tie

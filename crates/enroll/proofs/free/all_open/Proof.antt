@@ -1,7 +1,5 @@
 use mathlib.Core.Bool.{_&&_}
-use mathlib.Core.Path.{_≡_}
 use borrow.Author.Needs.{needs}
-use native.Mathlib.Omega.{arith}
 use Rattle.enroll.proofs.free.all_open.Statement.{statement}
 use Rattle.enroll.proofs.free.all_open.Tie as tie
 

@@ -5,9 +5,7 @@ use Rattle.lists.specs.Below.{all-below}
 use lib.Dec.{leb}
 use Prim.Native.Nat.{ℕ, _≤_, _-_}
 use mathlib.Core.List.{[]}
-use mathlib.Core.Bool.{Bool, true}
-use mathlib.Core.Path.{_≡_, refl, sym, ap, _∙_}
-use borrow.Author.Needs.{needs}
+use mathlib.Core.Path.{_≡_, ap}
 use native.Mathlib.Omega.{arith}
 use Rattle.enroll.proofs.free.all_under.Statement.{statement}
 use Rattle.enroll.proofs.free.all_under.Tie as tie

@@ -5,10 +5,9 @@ use Rattle.state.specs.declared.Card.{Card}
 use Rattle.geometry.specs.Geometry.{slotCount}
 use Rattle.lists.proofs.First.{first-none, first-more, first-hit, first-end}
 use Rattle.lists.specs.Below.{first-below}
-use Prim.Native.Nat.{ℕ, _≤_, _-_}
-use mathlib.Core.Bool.{Bool, true, false, not}
-use mathlib.Core.Path.{_≡_, refl, sym, ap, _∙_}
-use borrow.Author.Needs.{needs}
+use Prim.Native.Nat.{_≤_, _-_}
+use mathlib.Core.Bool.{not}
+use mathlib.Core.Path.{_≡_, ap, _∙_}
 use native.Mathlib.Omega.{arith}
 use Rattle.enroll.proofs.free.free_slot.Statement.{statement}
 use Rattle.enroll.proofs.free.free_slot.Tie as tie

@@ -8,9 +8,9 @@ use Rattle.geometry.specs.Geometry.{pageSize}
 use Rattle.lists.specs.Bytes.{gather}
 use Rattle.lists.specs.Below.{joined}
 use lib.ListN.{getD}
-use Prim.Native.Nat.{ℕ, _≤_, _-_, _*_}
-use mathlib.Core.List.{List, []}
-use mathlib.Core.Path.{_≡_, refl, sym, ap, subst, _∙_}
+use Prim.Native.Nat.{_≤_, _-_, _*_}
+use mathlib.Core.List.{[]}
+use mathlib.Core.Path.{refl, sym, subst, _∙_}
 use borrow.Author.Needs.{needs}
 use native.Mathlib.Omega.{arith}
 use Rattle.enroll.proofs.measure.measured.Statement.{statement}

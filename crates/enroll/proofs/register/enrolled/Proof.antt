@@ -1,11 +1,11 @@
 use Rattle.release.proofs.Given.{given-painted}
 use Rattle.state.proofs.Shaped.{state-shape}
-use Rattle.state.specs.Slots.{extendedPcrs, extendedSlot}
+use Rattle.state.specs.Slots.{extendedSlot}
 use Rattle.state.specs.declared.Slot.{Slot}
 use lib.ListN.{set}
-use Prim.Native.Nat.{ℕ, _+_}
+use Prim.Native.Nat.{_+_}
 use mathlib.Core.Bool.{true}
-use mathlib.Core.Path.{_≡_, refl, sym, ap, _∙_}
+use mathlib.Core.Path.{ap, _∙_}
 use borrow.Author.Needs.{needs}
 use native.Mathlib.Omega.{arith}
 use Rattle.enroll.proofs.register.enrolled.Statement.{statement}

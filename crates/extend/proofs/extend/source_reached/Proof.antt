@@ -3,9 +3,8 @@ use Rattle.state.specs.Face.{faceOf}
 use Rattle.memory.specs.declared.Source.{Source}
 use lib.Dec.{eqb}
 use mathlib.Core.Bool.{Bool, _||_}
-use mathlib.Core.Path.{_≡_, refl, sym, ap, _∙_}
+use mathlib.Core.Path.{sym, ap, _∙_}
 use borrow.Author.Needs.{needs}
-use native.Mathlib.Omega.{arith}
 use Rattle.extend.proofs.extend.source_reached.Statement.{statement}
 use Rattle.extend.proofs.extend.source_reached.Tie as tie
 

@@ -1,9 +1,7 @@
-use Rattle.state.specs.declared.State.{State}
 use Rattle.state.specs.declared.Slot.{Slot}
 use lib.ListN.{set}
-use mathlib.Core.Path.{_≡_, ap}
+use mathlib.Core.Path.{ap}
 use borrow.Author.Needs.{needs}
-use native.Mathlib.Omega.{arith}
 use Rattle.extend.proofs.extend.with_pcr.Statement.{statement}
 use Rattle.extend.proofs.extend.with_pcr.Tie as tie
 

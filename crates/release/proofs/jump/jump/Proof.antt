@@ -4,11 +4,7 @@ use Rattle.touch.proofs.Ready.{ready, mode-below}
 use Rattle.rules.specs.Decide.{jumpLegacy, jumpSecure, byMode}
 use Rattle.state.proofs.Shaped.{state-shape}
 use Rattle.state.specs.Face.{faceOf, pcrsOf}
-use Rattle.state.specs.declared.Mode.{Mode}
-use Prim.Native.Nat.{ℕ}
-use mathlib.Core.Path.{_≡_, refl, sym, ap, subst, _∙_}
 use borrow.Author.Needs.{needs}
-use native.Mathlib.Omega.{arith}
 use Rattle.release.proofs.jump.jump.Statement.{statement}
 use Rattle.release.proofs.jump.jump.Tie as tie
 

@@ -5,9 +5,7 @@ use Rattle.touch.proofs.Ready.{few-pages}
 use Rattle.state.specs.Face.{faceOf}
 use Rattle.rules.specs.Plan.{Plan}
 use borrow.Author.Tests.{lt-ltb, le-ltb, eq-eqb, ne-eqb}
-use mathlib.Core.Bool.{Bool, true, false, _&&_}
-use mathlib.Core.Path.{_≡_, refl, sym, ap, _∙_}
-use borrow.Author.Needs.{needs}
+use mathlib.Core.Path.{sym, ap}
 use native.Mathlib.Omega.{arith}
 use Rattle.release.proofs.jump.jump_legacy.Statement.{statement}
 use Rattle.release.proofs.jump.jump_legacy.Tie as tie

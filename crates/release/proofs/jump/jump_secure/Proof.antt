@@ -7,11 +7,9 @@ use Rattle.events.specs.declared.Answer.the-variants as answer
 use Rattle.state.proofs.Shaped.{state-shape}
 use Rattle.state.specs.Face.{faceOf}
 use Rattle.geometry.specs.Geometry.{pageOf}
-use Prim.Native.Nat.{_/_}
-use mathlib.Core.Bool.{Bool, true, false, _&&_}
-use mathlib.Core.Path.{_≡_, refl, sym, ap, _∙_}
+use mathlib.Core.Bool.{true, false, _&&_}
+use mathlib.Core.Path.{_≡_, sym, _∙_}
 use borrow.Author.Needs.{needs}
-use native.Mathlib.Omega.{arith}
 use Rattle.release.proofs.jump.jump_secure.Statement.{statement}
 use Rattle.release.proofs.jump.jump_secure.Tie as tie
 

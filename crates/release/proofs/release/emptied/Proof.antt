@@ -1,17 +1,13 @@
 use Rattle.release.proofs.Releases.{runs-fit}
 use Rattle.release.proofs.Given.{given-painted}
-use Rattle.painting.specs.Painting.{RunsFit}
 use Rattle.rules.specs.Tests.{given}
 use Rattle.state.proofs.Shaped.{state-shape}
 use Rattle.state.proofs.Faces.{card-at}
-use Rattle.state.specs.Face.{faceOf, cardAt}
 use Rattle.state.specs.Zero.{noSlot}
 use Rattle.state.specs.declared.Card.{Card}
-use lib.ListN.{length, set, getD}
-use Prim.Native.Nat.{ℕ}
-use mathlib.Core.Path.{_≡_, refl, sym, ap, _∙_}
+use lib.ListN.{set, getD}
+use mathlib.Core.Path.{sym, ap, _∙_}
 use borrow.Author.Needs.{needs}
-use native.Mathlib.Omega.{arith}
 use Rattle.release.proofs.release.emptied.Statement.{statement}
 use Rattle.release.proofs.release.emptied.Tie as tie
 

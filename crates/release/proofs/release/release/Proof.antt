@@ -9,10 +9,8 @@ use Rattle.state.specs.declared.Card.{Card}
 use Rattle.fields.specs.Pages.{pagesOf}
 use Rattle.geometry.specs.Geometry.{pageSize}
 use Rattle.lists.specs.Bytes.{wipe}
-use mathlib.Core.List.{List}
-use mathlib.Core.Path.{_≡_, refl, sym, ap, _∙_}
+use mathlib.Core.Path.{sym, ap, _∙_}
 use borrow.Author.Needs.{needs}
-use native.Mathlib.Omega.{arith}
 use Rattle.release.proofs.release.release.Statement.{statement}
 use Rattle.release.proofs.release.release.Tie as tie
 

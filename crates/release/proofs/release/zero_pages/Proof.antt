@@ -8,8 +8,7 @@ use Rattle.lists.specs.Below.{joined}
 use lib.ListN.{length}
 use Prim.Native.Nat.{ℕ, _≤_, _-_}
 use mathlib.Core.List.{[]}
-use mathlib.Core.Path.{_≡_, refl, sym, ap, _∙_}
-use borrow.Author.Needs.{needs}
+use mathlib.Core.Path.{_≡_, refl, ap, _∙_}
 use native.Mathlib.Omega.{arith}
 use Rattle.release.proofs.release.zero_pages.Statement.{statement}
 use Rattle.release.proofs.release.zero_pages.Tie as tie

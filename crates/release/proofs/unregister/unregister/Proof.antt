@@ -6,17 +6,14 @@ use Rattle.events.specs.declared.Answer.the-variants as answer
 use Rattle.state.proofs.Shaped.{state-shape}
 use Rattle.state.proofs.Faces.{card-at}
 use Rattle.state.specs.Face.{faceOf, cardAt}
-use Rattle.state.specs.Zero.{noSlot}
 use Rattle.state.specs.declared.Card.{Card}
 use Rattle.geometry.specs.Geometry.{slotCount}
 use Rattle.lists.proofs.Logic.{both}
-use lib.ListN.{getD}
-use lib.Dec.{eqb, ltb}
+use lib.Dec.{ltb}
 use borrow.Author.Tests.{lt-ltb, le-ltb}
-use mathlib.Core.Bool.{Bool, true, false, _&&_}
-use mathlib.Core.Path.{_≡_, refl, sym, ap, _∙_}
+use mathlib.Core.Bool.{true, false}
+use mathlib.Core.Path.{_≡_, ap, _∙_}
 use borrow.Author.Needs.{needs}
-use native.Mathlib.Omega.{arith}
 use Rattle.release.proofs.unregister.unregister.Statement.{statement}
 use Rattle.release.proofs.unregister.unregister.Tie as tie
 

@@ -1,13 +1,10 @@
 use Rattle.state.specs.Face.{faceOf}
 use Rattle.touch.proofs.Plans.{device-open}
 use Rattle.touch.proofs.Ready.{few-pages}
-use mathlib.Core.Path.{_≡_, sym, _∙_}
+use mathlib.Core.Path.{sym, _∙_}
 use native.Mathlib.Omega.{arith}
 use Rattle.touch.proofs.pages.device_may.Statement.{statement}
 use Rattle.touch.proofs.pages.device_may.Tie as tie
-use Rattle.touch.proofs.pages.device_may.Reads as reads
-use Rattle.touch.proofs.pages.device_may.Lts as lts
-use Rattle.touch.proofs.pages.is_open.Reads as is-open-reads
 
 is-open-requires : tie.Need-is-open-requires
 is-open-requires c κs = omega (arith, few-pages (c .before .before .before .args .t1) (c .before .before .before .pre))

@@ -2,13 +2,10 @@ use Rattle.touch.proofs.Ready.{few-runs-in, code-alone}
 use Rattle.state.proofs.Faces.{card-at}
 use Rattle.fields.specs.Rules.{inCode}
 use Rattle.state.specs.declared.Card.{Card}
-use mathlib.Core.Path.{_≡_, sym, ap, _∙_}
+use mathlib.Core.Path.{sym, ap, _∙_}
 use borrow.Author.Needs.{needs}
 use Rattle.touch.proofs.pages.in_code_of.Statement.{statement}
 use Rattle.touch.proofs.pages.in_code_of.Tie as tie
-use Rattle.touch.proofs.pages.in_code_of.Reads as reads
-use Rattle.touch.proofs.pages.in_code_of.Lts as lts
-use Rattle.keeps.proofs.in_code.Reads as in-code-reads
 
 mul-slot : tie.Need-mul-slot
 mul-slot c = search needs

@@ -2,8 +2,6 @@ use borrow.Author.Tests.{lt-ltb, le-ltb}
 use borrow.Author.Needs.{needs}
 use Rattle.touch.proofs.pages.is_open.Statement.{statement}
 use Rattle.touch.proofs.pages.is_open.Tie as tie
-use Rattle.touch.proofs.pages.is_open.Reads as reads
-use Rattle.touch.proofs.pages.is_open.Lts as lts
 
 shared-slice-read-result : tie.Need-shared-slice-read-result
 shared-slice-read-result c = search needs

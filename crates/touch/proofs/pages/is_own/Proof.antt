@@ -1,4 +1,4 @@
-use Prim.Native.Nat.{ℕ, _+_}
+use Prim.Native.Nat.{_+_}
 use lib.ListN.{List·getD-eq-default, getD}
 use mathlib.Core.Path.{_≡_, sym}
 use native.Mathlib.Omega.{arith}
@@ -6,8 +6,6 @@ use borrow.Author.Tests.{ne-eqb}
 use borrow.Author.Needs.{needs}
 use Rattle.touch.proofs.pages.is_own.Statement.{statement}
 use Rattle.touch.proofs.pages.is_own.Tie as tie
-use Rattle.touch.proofs.pages.is_own.Reads as reads
-use Rattle.touch.proofs.pages.is_own.Lts as lts
 
 shared-slice-read-result : tie.Need-shared-slice-read-result
 shared-slice-read-result c = search needs

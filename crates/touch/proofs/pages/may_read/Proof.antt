@@ -2,15 +2,11 @@ use Rattle.touch.proofs.Ready.{few-pages, mode-below}
 use Rattle.rules.specs.Tests.{read, mayReach}
 use Rattle.state.specs.Face.{faceOf}
 use Rattle.state.specs.declared.Mode.{Mode}
-use mathlib.Core.Path.{_≡_, sym, ap, _∙_}
+use mathlib.Core.Path.{sym, ap, _∙_}
 use native.Mathlib.Omega.{arith}
 use borrow.Author.Needs.{needs}
 use Rattle.touch.proofs.pages.may_read.Statement.{statement}
 use Rattle.touch.proofs.pages.may_read.Tie as tie
-use Rattle.touch.proofs.pages.may_read.Reads as reads
-use Rattle.touch.proofs.pages.may_read.Lts as lts
-use Rattle.touch.proofs.pages.is_open.Reads as is-open-reads
-use Rattle.touch.proofs.pages.is_own.Reads as is-own-reads
 
 enum-told : tie.Need-enum-told
 enum-told c = search needs

@@ -2,17 +2,12 @@ use Rattle.touch.proofs.Ready.{few-pages, mode-below}
 use Rattle.rules.specs.Tests.{write, mayReach}
 use Rattle.state.specs.Face.{faceOf}
 use Rattle.state.specs.declared.Mode.{Mode}
-use mathlib.Core.Bool.{Bool, _&&_, not}
-use mathlib.Core.Path.{_≡_, sym, ap, _∙_}
+use mathlib.Core.Bool.{_&&_, not}
+use mathlib.Core.Path.{sym, ap, _∙_}
 use native.Mathlib.Omega.{arith}
 use borrow.Author.Needs.{needs}
 use Rattle.touch.proofs.pages.may_write.Statement.{statement}
 use Rattle.touch.proofs.pages.may_write.Tie as tie
-use Rattle.touch.proofs.pages.may_write.Reads as reads
-use Rattle.touch.proofs.pages.may_write.Lts as lts
-use Rattle.touch.proofs.pages.in_code_of.Reads as in-code-of-reads
-use Rattle.touch.proofs.pages.is_open.Reads as is-open-reads
-use Rattle.touch.proofs.pages.is_own.Reads as is-own-reads
 
 enum-told : tie.Need-enum-told
 enum-told c = search needs

@@ -4,21 +4,16 @@ use Rattle.state.proofs.Shaped.{state-shape}
 use Rattle.state.proofs.Faces.{pcrs-at}
 use Rattle.state.specs.Face.{faceOf}
 use Rattle.state.specs.Zero.{noPcr}
-use Rattle.geometry.specs.Geometry.{pcrCount, digestSize}
 use Rattle.sha1.specs.declared.Digest.{Digest}
 use lib.Seq.{sets}
 use lib.ListN.{getD}
-use Prim.Native.Nat.{_<_}
 use native.Mathlib.Omega.{arith}
 use mathlib.Core.List.{List}
-use mathlib.Core.Path.{_≡_, refl, sym, ap, _∙_}
+use mathlib.Core.Path.{refl, sym, ap, _∙_}
 use borrow.Author.Tests.{lt-leb, le-leb, lt-ltb, le-ltb}
 use borrow.Author.Needs.{needs}
 use Rattle.touch.proofs.pcr_read.pcr_read.Statement.{statement}
 use Rattle.touch.proofs.pcr_read.pcr_read.Tie as tie
-use Rattle.touch.proofs.pcr_read.pcr_read.Reads as reads
-use Rattle.touch.proofs.pcr_read.pcr_read.Lts as lts
-use Rattle.memory.proofs.put_bytes.Reads as put-bytes-reads
 
 returns : tie.Need-returns
 returns c = λ m. let a = c .before .before .args in rw (pcr-10 (faceOf (a .t1)) (a .k) _ (a .index) (le-ltb _ _ (c .if1 .taken))) (refl, refl)

@@ -1,14 +1,10 @@
 use Rattle.touch.proofs.Ready.{ready, long}
 use Rattle.rules.specs.Tests.{device}
 use Rattle.state.specs.Face.{faceOf, pcrsOf}
-use mathlib.Core.Path.{_≡_, refl, sym}
+use mathlib.Core.Path.{refl, sym}
 use borrow.Author.Needs.{needs}
 use Rattle.touch.proofs.read.device_read.Statement.{statement}
 use Rattle.touch.proofs.read.device_read.Tie as tie
-use Rattle.touch.proofs.read.device_read.Reads as reads
-use Rattle.touch.proofs.read.device_read.Lts as lts
-use Rattle.touch.proofs.pages.device_may.Reads as device-may-reads
-use Rattle.touch.proofs.read.give.Reads as give-reads
 
 device-may-requires : tie.Need-device-may-requires
 device-may-requires c κs = ready _ _ (c .before .before .pre)

@@ -3,15 +3,11 @@ use Rattle.touch.proofs.Plans.{read-4, read-5, read-9, read-on}
 use Rattle.geometry.specs.Geometry.{isRange}
 use Prim.Native.Nat.{ℕ}
 use native.Mathlib.Omega.{arith}
-use mathlib.Core.Path.{_≡_, refl, sym, ap, _∙_}
+use mathlib.Core.Path.{refl, sym, ap, _∙_}
 use borrow.Author.Tests.{not-true, not-false, lt-leb, le-leb}
 use borrow.Author.Needs.{needs}
 use Rattle.touch.proofs.read.give.Statement.{statement}
 use Rattle.touch.proofs.read.give.Tie as tie
-use Rattle.touch.proofs.read.give.Reads as reads
-use Rattle.touch.proofs.read.give.Lts as lts
-use Rattle.geometry.proofs.Geometry.is_range.Reads as is-range-reads
-use Rattle.memory.proofs.give_bytes.Reads as give-bytes-reads
 
 is-range-requires : tie.Need-is-range-requires
 is-range-requires c κs = search needs

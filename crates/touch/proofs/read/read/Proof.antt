@@ -1,14 +1,10 @@
 use Rattle.touch.proofs.Ready.{ready, long}
 use Rattle.rules.specs.Tests.{read}
 use Rattle.state.specs.Face.{faceOf, pcrsOf}
-use mathlib.Core.Path.{_≡_, refl, sym}
+use mathlib.Core.Path.{refl, sym}
 use borrow.Author.Needs.{needs}
 use Rattle.touch.proofs.read.read.Statement.{statement}
 use Rattle.touch.proofs.read.read.Tie as tie
-use Rattle.touch.proofs.read.read.Reads as reads
-use Rattle.touch.proofs.read.read.Lts as lts
-use Rattle.touch.proofs.pages.may_read.Reads as may-read-reads
-use Rattle.touch.proofs.read.give.Reads as give-reads
 
 may-read-requires : tie.Need-may-read-requires
 may-read-requires c κs = ready _ _ (c .before .before .pre)

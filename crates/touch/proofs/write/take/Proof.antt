@@ -4,15 +4,11 @@ use Rattle.geometry.specs.Geometry.{isRange}
 use lib.ListN.{length}
 use Prim.Native.Nat.{ℕ}
 use native.Mathlib.Omega.{arith}
-use mathlib.Core.Path.{_≡_, refl, sym, ap, _∙_}
+use mathlib.Core.Path.{refl, sym, ap, _∙_}
 use borrow.Author.Tests.{not-true, not-false}
 use borrow.Author.Needs.{needs}
 use Rattle.touch.proofs.write.take.Statement.{statement}
 use Rattle.touch.proofs.write.take.Tie as tie
-use Rattle.touch.proofs.write.take.Reads as reads
-use Rattle.touch.proofs.write.take.Lts as lts
-use Rattle.geometry.proofs.Geometry.is_range.Reads as is-range-reads
-use Rattle.memory.proofs.put_bytes.Reads as put-bytes-reads
 
 is-range-requires : tie.Need-is-range-requires
 is-range-requires c κs = search needs

@@ -1,14 +1,10 @@
 use Rattle.touch.proofs.Ready.{ready, long}
 use Rattle.rules.specs.Tests.{write}
 use Rattle.state.specs.Face.{faceOf}
-use mathlib.Core.Path.{_≡_, refl, sym}
+use mathlib.Core.Path.{refl, sym}
 use borrow.Author.Needs.{needs}
 use Rattle.touch.proofs.write.write.Statement.{statement}
 use Rattle.touch.proofs.write.write.Tie as tie
-use Rattle.touch.proofs.write.write.Reads as reads
-use Rattle.touch.proofs.write.write.Lts as lts
-use Rattle.touch.proofs.pages.may_write.Reads as may-write-reads
-use Rattle.touch.proofs.write.take.Reads as take-reads
 
 may-write-requires : tie.Need-may-write-requires
 may-write-requires c κs = ready _ _ (c .before .before .pre)
