@@ -3,7 +3,7 @@
 #include <string.h>
 
 #define NAME plain_sha1
-#include "plain_sha1.c"
+#include "monitor_sha1.c"
 
 enum { CODE = 1, PARAM = 4, MONITORS = 255 };
 _Static_assert(sizeof(struct digest) == PLAIN_DIGEST, "a digest is a uPCR");
