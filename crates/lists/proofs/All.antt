@@ -84,12 +84,13 @@ xor-zero a b =
     eq-eqb a b (omega (arith, xor-add-and a b, and-le-l a b, and-le-r a b)))
     (λ p. let e = eqb-true a b p in eq-eqb (bitXor a b) 0 (rw e (xor-self b)))
 
--- a loop that gathers what is not zero by a bitwise or: before it, and a turn
 module _ (f : ℕ → Bool) where
+  -- before a loop that gathers what is not zero by a bitwise or
   pub bits-none : eqb 0 0 ≡ all-below 0 f
   unfolding all-below
   bits-none = refl
 
+  -- a turn of it
   pub bits-step : (i b t : ℕ) → eqb b 0 ≡ all-below i f → eqb t 0 ≡ f i → eqb (bitOr b t) 0 ≡ all-below (i + 1) f
   unfolding all-below
   bits-step i b t h e = rw (add-one, or-zero b t, h, e)

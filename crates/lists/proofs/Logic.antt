@@ -37,11 +37,12 @@ pub or-right : (a b : Bool) → b ≡ true → a || b ≡ true
 or-right true b h = refl
 or-right false b h = h
 
--- both parts of an `||` that fails
+-- the first part of an `||` that fails
 pub or-false-l : (a b : Bool) → a || b ≡ false → a ≡ false
 or-false-l true b h = h
 or-false-l false b h = refl
 
+-- the second part of an `||` that fails
 pub or-false-r : (a b : Bool) → a || b ≡ false → b ≡ false
 or-false-r true b h = absurd (false≢true (sym h))
 or-false-r false b h = h
@@ -57,11 +58,12 @@ pub decided : {A : Type 0} (b : Bool) → (b ≡ true → A) → (b ≡ false �
 decided true f g = f refl
 decided false f g = g refl
 
--- what agrees with a test that holds, holds
+-- where two tests agree and the first holds, the second holds
 pub same-l : (a b : Bool) → same a b ≡ true → a ≡ true → b ≡ true
 same-l true b t h = t
 same-l false b t h = absurd (false≢true h)
 
+-- and the other way round
 pub same-r : (a b : Bool) → same a b ≡ true → b ≡ true → a ≡ true
 same-r true b t h = refl
 same-r false true t h = t
@@ -73,10 +75,11 @@ agree true b f g = f refl
 agree false true f g = absurd (false≢true (g refl))
 agree false false f g = refl
 
--- a pick by a test whose answer is known
+-- a pick by a test that holds
 pub pick-true : {A : Type 0} (t : Bool) (a b : A) → t ≡ true → pick t a b ≡ a
 pick-true t a b h = rw h
 
+-- a pick by a test that fails
 pub pick-false : {A : Type 0} (t : Bool) (a b : A) → t ≡ false → pick t a b ≡ b
 pick-false t a b h = rw h
 

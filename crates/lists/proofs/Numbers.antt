@@ -10,12 +10,13 @@ use lib.Seq.{getD-append-add, getD-at, getD-drop, drop-cons, take-suc}
 use Rattle.lists.specs.Bytes.{part}
 use Rattle.lists.specs.Numbers.{little, littleAt, big, bigAt}
 
--- how many bytes
+-- how many bytes, least first
 pub little-long : (n x : ℕ) → length (little n x) ≡ n
 unfolding little
 little-long zero x = refl
 little-long (suc n) x = ap suc (little-long n (x / 256))
 
+-- how many bytes, most first
 pub big-long : (n x : ℕ) → length (big n x) ≡ n
 unfolding big
 big-long zero x = refl
@@ -52,12 +53,13 @@ unfolding littleAt
 little-fits zero l at b = omega arith
 little-fits (suc n) l at b = omega (arith, b at, little-fits n l (at + 1) b, pow-suc 256 n)
 
--- the same most first: what stands before the bytes, and what follows them, is not looked at
+-- most first: what stands before the bytes is not looked at
 pub big-skip : (n : ℕ) (xs l : List ℕ) (at : ℕ) → bigAt n (xs ++ l) (length xs + at) ≡ bigAt n l at
 unfolding bigAt
 big-skip zero xs l at = refl
 big-skip (suc n) xs l at = rw (big-skip n xs l at, add-assoc (length xs) at n, getD-append-add xs l (at + n) 0)
 
+-- nor is what follows them
 pub big-front : (n : ℕ) (l xs : List ℕ) → n ≤ length l → bigAt n (l ++ xs) 0 ≡ bigAt n l 0
 unfolding bigAt
 big-front zero l xs h = refl

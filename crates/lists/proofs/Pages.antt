@@ -35,15 +35,17 @@ pub wipe-more : (z : ℕ) (ps m : List ℕ) (p : ℕ) → wipe z m (ps ++ (p ∷
 unfolding wipe
 wipe-more z ps m p = wipe-append z ps (p ∷ []) m
 
--- the pages of a run: how many, one more, and each of them
+-- how many pages a run has
 pub counted-long : (a n : ℕ) → length (counted a n) ≡ n
 unfolding counted
 counted-long a n = table-long (λ i. a + i) n
 
+-- one page more
 pub counted-more : (a n : ℕ) → counted a (suc n) ≡ counted a n ++ ((a + n) ∷ [])
 unfolding counted table
 counted-more a n = refl
 
+-- its page i
 pub counted-at : (a n i : ℕ) → i < n → getD (counted a n) i 0 ≡ a + i
 unfolding counted
 counted-at a n i h = table-at (λ i. a + i) n i 0 h

@@ -9,7 +9,7 @@ use native.Mathlib.Omega.{arith}
 use native.Mathlib.Decide.{decLt, ℕ-discrete}
 use lib.ListN.{length, take, drop, getD, set, replicate, length-append, length-take, length-drop, length-set, length-replicate, getD-replicate, replicate-append-replicate, List·getD-eq-default}
 use lib.Seq.{sets, length-sets, sets-eq, getD-set-same, getD-set-other, getD-take, getD-drop, ext-getD, set-out, length-take-le, take-suc, take-length, drop-drop}
-use Rattle.lists.specs.Bytes.{part, zeros, Apart}
+use Rattle.lists.specs.Bytes.{part, zeros}
 
 -- ---- zeros
 
@@ -208,12 +208,3 @@ put-turn m at p i e h = rw (add-one, take-suc p i 0 h) (sets-turn m at i (take i
 -- a turn of a loop that zeroes
 pub zero-turn : {d : List ℕ} (m : List ℕ) (at i : ℕ) → d ≡ sets m at (zeros i) → set d (at + i) 0 ≡ sets m at (zeros (i + 1))
 zero-turn m at i e = rw zeros-more (sets-turn m at i (zeros i) 0 e (zeros-long i))
-
--- a turn of a loop that moves bytes within one list: the byte that is read is still the first list's
-pub move-turn : {d : List ℕ} (m : List ℕ) (from to n i : ℕ) → d ≡ sets m to (part m from i) → Apart from to n → i < n → from + i < length m
-    → set d (to + i) (getD d (from + i) 0) ≡ sets m to (part m from (i + 1))
-move-turn {d} m from to n i e a b h =
-    let l : length (part m from i) ≡ i = part-long m from i (omega arith) in
-    let same : getD d (from + i) 0 ≡ getD m (from + i) 0 =
-    rw e (⊎-elim (λ p. sets-before (part m from i) m to (from + i) (omega arith)) (λ p. sets-after (part m from i) m to (from + i) (omega arith)) a) in
-    rw (same, part-more m from i h) (sets-turn m to i (part m from i) (getD m (from + i) 0) e l)

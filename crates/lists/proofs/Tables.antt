@@ -49,6 +49,7 @@ module _ {A : Type 0} (v : ℕ → A) where
   written-more l i h =
       rw (add-one, drop-cons l i (v i), set-at (table v i) (getD l i (v i)) (drop (suc i) l) (v i) i (table-long i), append-assoc)
 
+  -- it stays as long as it was
   pub written-long : (l : List A) (i : ℕ) → i ≤ length l → length (written l i) ≡ length l
   unfolding written table
   written-long l i h = simp (length-append, table-long i, length-drop) (omega arith)

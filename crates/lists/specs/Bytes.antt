@@ -1,6 +1,5 @@
 -- Bytes of a list: a part of it, zeros, whole pages. Bytes are put into a list by the kit's `sets m at bytes`.
-use Prim.Native.Nat.{ℕ, _+_, _*_, _≤_}
-use mathlib.Core.Logic.{_⊎_}
+use Prim.Native.Nat.{ℕ, _+_, _*_}
 use mathlib.Core.List.{List, [], _∷_, _++_}
 use lib.ListN.{take, drop, replicate}
 use lib.Seq.{sets}
@@ -13,10 +12,6 @@ part m at n = take n (drop at m)
 -- n zero bytes
 unfoldable pub zeros : ℕ → List ℕ
 zeros n = replicate n 0
-
--- the n bytes from a and the n bytes from b have none in common
-abbrev pub Apart : ℕ → ℕ → ℕ → Type 0
-Apart a b n = (a + n ≤ b) ⊎ (b + n ≤ a)
 
 -- the n numbers from a on: the pages of a run
 unfoldable pub counted : ℕ → ℕ → List ℕ
