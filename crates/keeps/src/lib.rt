@@ -202,14 +202,14 @@ fn entries_rise(e: usize, entries: [Entry; 8]) -> bool
     ok
 }
 
-// ---- unused places
-fn run_bits(x: Run) -> u32
+// ---- unused places: a number that is 0 where every field of the place is
+pub fn run_bits(x: Run) -> u32
     ensures { λ b. ⌜ eqb b 0 ≡ runZero x ⌝ }
 {
     x.kind as u32 | (x.count as u32 | x.first)
 }
 
-fn entry_bits(x: Entry) -> u32
+pub fn entry_bits(x: Entry) -> u32
     ensures { λ b. ⌜ eqb b 0 ≡ entryZero x ⌝ }
 {
     x.address | (x.input as u32 | x.output as u32)

@@ -9,7 +9,7 @@ ghost use lib.Dec.{eqb, ltb};
 ghost use Rattle.lists.specs.Below.{pick, all-below, any-below};
 ghost use Rattle.geometry.specs.Geometry.{mostPages, slotCount, pcrCount, digestSize, isRange, pageOf};
 ghost use Rattle.fields.specs.Fields.{fieldsOf, runPlaces, entryPlaces};
-ghost use Rattle.fields.specs.Rules.{keepsRules, runZero, entryZero};
+ghost use Rattle.fields.specs.Rules.{keepsRules};
 ghost use Rattle.fields.specs.Pages.{pagesUnder};
 ghost use Rattle.state.specs.Face.{faceOf};
 ghost use Rattle.wellformed.specs.WellFormed.{sizesRight, fieldsZero, runZeroAt, entryZeroAt, byteZeroAt, pcrsZero, cardRight, cardRightAt, heldOnce, ownerRightAt, runningZero, outputAt, runningRight, modeRight, stateRight, wellFormed};
@@ -30,18 +30,6 @@ pub fn sizes_right(p: usize, m: usize) -> bool
 }
 
 // ---- free slots: zero where every byte is
-fn run_bits(x: Run) -> u32
-    ensures { λ b. ⌜ eqb b 0 ≡ runZero x ⌝ }
-{
-    x.kind as u32 | (x.count as u32 | x.first)
-}
-
-fn entry_bits(x: Entry) -> u32
-    ensures { λ b. ⌜ eqb b 0 ≡ entryZero x ⌝ }
-{
-    x.address | (x.input as u32 | x.output as u32)
-}
-
 fn runs_bits(runs: [Run; 4]) -> u32
     ensures { λ r. ⌜ eqb r 0 ≡ all-below runPlaces (runZeroAt (fieldsOf 0 0 runs [])) ⌝ }
 {
@@ -49,7 +37,7 @@ fn runs_bits(runs: [Run; 4]) -> u32
     let mut i: usize = 0;
     while i < 4 {
         let x = runs[i];
-        bits = bits | run_bits(x);
+        bits = bits | keeps::run_bits(x);
         i += 1;
     }
     bits
@@ -62,7 +50,7 @@ fn entries_bits(entries: [Entry; 8]) -> u32
     let mut i: usize = 0;
     while i < 8 {
         let x = entries[i];
-        bits = bits | entry_bits(x);
+        bits = bits | keeps::entry_bits(x);
         i += 1;
     }
     bits
