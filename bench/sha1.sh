@@ -14,7 +14,7 @@ rt staticlib sha1_c >"$out/staticlib.log" 2>&1 || { tail -n 20 "$out/staticlib.l
 
 gcc=gcc clang=clang run='' count='' include='' lib='-lcrypto'
 if [ "$(uname -m)" != x86_64 ]; then
-    own=${RATTLE:-/opt/rattle}/on/$(uname -m)/toolchain
+    own=$(cd "$(dirname "$(readlink -f "$(command -v rt)")")/.." && pwd)/on/$(uname -m)/toolchain
     gcc=x86_64-linux-gnu-gcc clang='clang --target=x86_64-linux-gnu'
     OPENSSL=${OPENSSL:?the folder into which the amd64 packages libssl3 and libssl-dev are unpacked}
     include="-I$OPENSSL/usr/include -I$OPENSSL/usr/include/x86_64-linux-gnu"

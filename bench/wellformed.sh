@@ -15,7 +15,8 @@ if [ "$(uname -m)" != x86_64 ]; then
     gcc=x86_64-linux-gnu-gcc
     # the emulator counts each turn of a `rep movsb` as an instruction, so memcpy is told to copy by vectors
     large=1000000
-    run="${RATTLE:-/opt/rattle}/on/$(uname -m)/toolchain/bin/qemu-x86_64 -cpu max -E GLIBC_TUNABLES=glibc.cpu.x86_rep_movsb_threshold=$large:glibc.cpu.x86_rep_stosb_threshold=$large" count=yes
+    home=$(cd "$(dirname "$(readlink -f "$(command -v rt)")")/.." && pwd)
+    run="$home/on/$(uname -m)/toolchain/bin/qemu-x86_64 -cpu max -E GLIBC_TUNABLES=glibc.cpu.x86_rep_movsb_threshold=$large:glibc.cpu.x86_rep_stosb_threshold=$large" count=yes
 fi
 $gcc -O3 -static bench/wellformed.c bench/plain_wellformed.c target/staticlib/libwellformed_c.a -o "$out/wellformed" 2>"$out/link.log" || { cat "$out/link.log"; exit 1; }
 
