@@ -2,7 +2,15 @@ ghost use mathlib.Core.Path.{_≡_};
 ghost use Prim.Native.Nat.{_+_, _-_, _*_, _%_, _≤_, _<_};
 ghost use lib.ListN.{length};
 ghost use Rattle.lists.specs.Numbers.{big, bigAt};
+ghost use Rattle.blocks.specs.Blocks.{blockSize, wordSize, lengthSize, gap};
 ghost use Rattle.blocks.specs.Tail as Tails;
+
+// The bytes of a block, of a word and of the length that ends a message.
+pub const BLOCK: usize = 64;
+
+pub const WORD: usize = 4;
+
+const LENGTH: usize = 8;
 
 fn wide(x: u8) -> u32
     ensures { λ r. ⌜ (r ≡ x) × (r < 256) ⌝ }
@@ -12,8 +20,8 @@ fn wide(x: u8) -> u32
 
 // The big-endian word of four bytes. LLVM makes one load and a byte swap of it.
 pub fn word(p: &[u8], at: usize) -> u32
-    requires { ⌜ at + 4 ≤ length (now p) ⌝ }
-    ensures { λ r. ⌜ r ≡ bigAt 4 (now (p .entry)) at ⌝ }
+    requires { ⌜ at + wordSize ≤ length (now p) ⌝ }
+    ensures { λ r. ⌜ r ≡ bigAt wordSize (now (p .entry)) at ⌝ }
 {
     wide(p[at]) * 16777216 + wide(p[at + 1]) * 65536 + wide(p[at + 2]) * 256 + wide(p[at + 3])
 }
@@ -24,8 +32,8 @@ fn low(x: usize) -> u8
     (x % 256) as u8
 }
 
-fn big8(x: usize) -> [u8; 8]
-    ensures { λ r. ⌜ r ≡ big 8 x ⌝ }
+fn big8(x: usize) -> [u8; LENGTH]
+    ensures { λ r. ⌜ r ≡ big lengthSize x ⌝ }
 {
     let x1 = x / 256;
     let x2 = x1 / 256;
@@ -48,16 +56,20 @@ fn big8(x: usize) -> [u8; 8]
 
 // The one or two blocks that end a message: the first count bytes, and zeros.
 pub struct Tail {
-    pub bytes: [u8; 128],
+    pub bytes: [u8; 2 * BLOCK],
     pub count: usize,
 }
 
 // How many bytes end a message with left bytes after its last whole block.
 fn room(left: usize) -> usize
-    requires { ⌜ left < 64 ⌝ }
-    ensures { λ r. ⌜ (r ≤ 128) × (left + 9 ≤ r) × ((119 - left) % 64 ≡ r - 8 - (left + 1)) ⌝ }
+    requires { ⌜ left < blockSize ⌝ }
+    ensures { λ r. ⌜ (r ≤ 2 * blockSize) × (left + 1 + lengthSize ≤ r) × (gap left ≡ r - lengthSize - (left + 1)) ⌝ }
 {
-    if left < 56 { 64 } else { 128 }
+    if left + 1 + LENGTH <= BLOCK {
+        BLOCK
+    } else {
+        2 * BLOCK
+    }
 }
 
 // The end of a message of total bytes whose last part is given.
@@ -65,20 +77,20 @@ pub fn ending(last: &[u8], total: usize) -> Tail
     ensures { λ r. ⌜ r ≡ Tails.tailOf (now (last .entry)) total ⌝ }
 {
     let n = last.len();
-    let from = n / 64 * 64;
+    let from = n / BLOCK * BLOCK;
     let left = n - from;
-    let mut b = [0u8; 128];
+    let mut b = [0u8; 2 * BLOCK];
     let mut i: usize = 0;
     while i < left {
         b[i] = last[from + i];
         i += 1;
     }
-    b[left] = 128;
+    b[left] = 0x80;
     let count = room(left);
-    let end = count - 8;
+    let end = count - LENGTH;
     let z = big8(total << 3);
     let mut j: usize = 0;
-    while j < 8 {
+    while j < LENGTH {
         b[end + j] = z[j];
         j += 1;
     }

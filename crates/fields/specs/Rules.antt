@@ -16,15 +16,21 @@ countsRight f = (leb 2 (f .r) && leb (f .r) runPlaces) && (leb 1 (f .e) && leb (
 -- ---- runs
 
 -- "kind (1 code, 2 data, 3 stack, 4 param)"
+abbrev pub codeKind : ℕ
+codeKind = 1
+
+abbrev pub paramKind : ℕ
+paramKind = 4
+
 abbrev pub isCode : Run → Bool
-isCode x = eqb (x .kind) 1
+isCode x = eqb (x .kind) codeKind
 
 abbrev pub isParam : Run → Bool
-isParam x = eqb (x .kind) 4
+isParam x = eqb (x .kind) paramKind
 
 -- one run by itself: its kind, "count u16 at least 1", "last page under 1,024"
 abbrev pub runRight : Run → Bool
-runRight x = (leb 1 (x .kind) && leb (x .kind) 4) && (leb 1 (x .count) && leb (endOf x) mostPages)
+runRight x = (leb codeKind (x .kind) && leb (x .kind) paramKind) && (leb 1 (x .count) && leb (endOf x) mostPages)
 
 abbrev pub runRightAt : Fields → ℕ → Bool
 runRightAt f k = runRight (runAt f k)

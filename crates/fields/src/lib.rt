@@ -1,4 +1,7 @@
 // The fields of a manifest: runs of pages and entries (document 01, "Manifest").
+ghost use mathlib.Core.Path.{_≡_};
+ghost use mathlib.Core.List.{[], _∷_};
+ghost use Rattle.fields.specs.Fields.{runPlaces, entryPlaces};
 
 #[repr(C)]
 pub struct Run {
@@ -19,6 +22,19 @@ pub struct Entry {
 pub struct Fields {
     pub r: usize,
     pub e: usize,
-    pub runs: [Run; 4],
-    pub entries: [Entry; 8],
+    pub runs: [Run; Fields::RUNS],
+    pub entries: [Entry; Fields::ENTRIES],
+}
+
+impl Fields {
+    pub const RUNS: usize = 4;
+
+    pub const ENTRIES: usize = 8;
+
+    // The constants are the definitions' numbers: neither moves without the other.
+    pub fn places() -> [usize; 2]
+        ensures { λ r. ⌜ r ≡ runPlaces ∷ entryPlaces ∷ [] ⌝ }
+    {
+        [Fields::RUNS, Fields::ENTRIES]
+    }
 }

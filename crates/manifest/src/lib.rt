@@ -1,13 +1,11 @@
 // The manifest: read from the trailer backward, and written (document 01, "Manifest: body first, trailer last").
+mod parts; // the writer's parts
+
 ghost use mathlib.Core.Path.{_≡_};
-ghost use mathlib.Core.List.{[]};
 ghost use Prim.Native.Nat.{ℕ, _+_, _*_, _≤_, _<_};
 ghost use lib.ListN.{length, getD};
-ghost use lib.Seq.{sets};
-ghost use Rattle.lists.specs.Below.{joined};
-ghost use Rattle.lists.specs.Numbers.{little, littleAt};
-ghost use Rattle.fields.specs.Fields.{fieldsOf};
-ghost use Rattle.manifest.specs.Layout.{itemSize, runBytes, entryBytes, trailerBytes, runBytesAt, entryBytesAt};
+ghost use Rattle.lists.specs.Numbers.{littleAt};
+ghost use Rattle.manifest.specs.Layout.{itemSize};
 ghost use Rattle.manifest.specs.Writer.{wrote, writeManifest};
 ghost use Rattle.manifest.specs.Reader.{equal, trailerOf, runOf, entryOf, refusedReading, readManifest};
 use fields::Entry;
@@ -16,6 +14,11 @@ use fields::Run;
 
 // "bytes 53 53 43 42, version 1": compared by the reader, written by the writer.
 const FIXED: [u8; 5] = *b"SSCB\x01";
+
+// "r runs (2 to 4) of 8 bytes, e entries (1 to 8) of 8 bytes, trailer of 16"
+pub const ITEM: usize = 8;
+
+pub const TRAILER: usize = 16;
 
 // "3: manifest or its fields break a rule"
 const RULE_BROKEN: u8 = 3;
@@ -108,10 +111,10 @@ fn trailer(bytes: &[u8]) -> TrailerRead
     ensures { λ x. ⌜ x ≡ trailerOf (now (bytes .entry)) ⌝ }
 {
     let n = bytes.len();
-    if n < 16 {
+    if n < TRAILER {
         return TrailerRead::Bad;
     }
-    let t = n - 16;
+    let t = n - TRAILER;
     let fixed = same(&bytes[t..t + 5], &FIXED);
     let r = byte_at(bytes, t + 5);
     let e = byte_at(bytes, t + 6);
@@ -122,7 +125,8 @@ fn trailer(bytes: &[u8]) -> TrailerRead
     if fixed
         & (counts
             & ((zero == 0)
-                & ((n == 8 * (r + e) + 16) & ((runs == 8 * (r + e)) & (entries == 8 * e)))))
+                & ((n == ITEM * (r + e) + TRAILER)
+                    & ((runs == ITEM * (r + e)) & (entries == ITEM * e)))))
     {
         TrailerRead::Is(Counts { r, e })
     } else {
@@ -131,7 +135,7 @@ fn trailer(bytes: &[u8]) -> TrailerRead
 }
 
 fn entry_at(bytes: &[u8], at: usize) -> EntryRead
-    requires { ⌜ at + 8 ≤ length (now bytes) ⌝ }
+    requires { ⌜ at + itemSize ≤ length (now bytes) ⌝ }
     ensures { λ x. ⌜ x ≡ entryOf (now (bytes .entry)) at ⌝ }
 {
     let x = Entry {
@@ -147,7 +151,7 @@ fn entry_at(bytes: &[u8], at: usize) -> EntryRead
 }
 
 fn run_at(bytes: &[u8], at: usize) -> RunRead
-    requires { ⌜ at + 8 ≤ length (now bytes) ⌝ }
+    requires { ⌜ at + itemSize ≤ length (now bytes) ⌝ }
     ensures { λ x. ⌜ x ≡ runOf (now (bytes .entry)) at ⌝ }
 {
     let x = Run {
@@ -167,8 +171,8 @@ fn run_at(bytes: &[u8], at: usize) -> RunRead
 fn refused() -> Reading
     ensures { λ x. ⌜ x ≡ refusedReading ⌝ }
 {
-    let runs = [NO_RUN; 4];
-    let entries = [NO_ENTRY; 8];
+    let runs = [NO_RUN; Fields::RUNS];
+    let entries = [NO_ENTRY; Fields::ENTRIES];
     let fields = Fields {
         r: 0,
         e: 0,
@@ -190,20 +194,20 @@ pub fn read(bytes: &[u8]) -> Reading
     };
     let r = counts.r;
     let e = counts.e;
-    let mut entries = [NO_ENTRY; 8];
+    let mut entries = [NO_ENTRY; Fields::ENTRIES];
     let mut i = e;
     while 0 < i {
         i = i - 1;
-        let EntryRead::Is(x) = entry_at(bytes, 8 * r + 8 * i) else {
+        let EntryRead::Is(x) = entry_at(bytes, ITEM * r + ITEM * i) else {
             return refused();
         };
         entries[i] = x;
     }
-    let mut runs = [NO_RUN; 4];
+    let mut runs = [NO_RUN; Fields::RUNS];
     let mut k = r;
     while 0 < k {
         k = k - 1;
-        let RunRead::Is(y) = run_at(bytes, 8 * k) else {
+        let RunRead::Is(y) = run_at(bytes, ITEM * k) else {
             return refused();
         };
         runs[k] = y;
@@ -220,91 +224,6 @@ pub fn read(bytes: &[u8]) -> Reading
     Reading { refusal: 0, fields }
 }
 
-// Eight bytes of a run, of an entry.
-fn put_run(buffer: &mut [u8], at: usize, x: Run)
-    requires { ⌜ at + 8 ≤ length (now buffer) ⌝ }
-    ensures { λ _. ⌜ now (buffer .exit) ≡ sets (now (buffer .entry)) at (runBytes x) ⌝ }
-{
-    let count = x.count;
-    let first = x.first;
-    let b = [
-        x.kind,
-        0,
-        (count % 256) as u8,
-        (count / 256 % 256) as u8,
-        (first % 256) as u8,
-        (first / 256 % 256) as u8,
-        (first / 65536 % 256) as u8,
-        (first / 16777216 % 256) as u8,
-    ];
-    memory::put_bytes(buffer, at, &b);
-}
-
-fn put_entry(buffer: &mut [u8], at: usize, x: Entry)
-    requires { ⌜ at + 8 ≤ length (now buffer) ⌝ }
-    ensures { λ _. ⌜ now (buffer .exit) ≡ sets (now (buffer .entry)) at (entryBytes x) ⌝ }
-{
-    let address = x.address;
-    let input = x.input;
-    let output = x.output;
-    let b = [
-        (address % 256) as u8,
-        (address / 256 % 256) as u8,
-        (address / 65536 % 256) as u8,
-        (address / 16777216 % 256) as u8,
-        (input % 256) as u8,
-        (input / 256 % 256) as u8,
-        (output % 256) as u8,
-        (output / 256 % 256) as u8,
-    ];
-    memory::put_bytes(buffer, at, &b);
-}
-
-// A distance back, which is below 256 here.
-fn put_distance(buffer: &mut [u8], at: usize, x: usize)
-    requires { ⌜ (at + 4 ≤ length (now buffer)) × (x < 256) ⌝ }
-    ensures { λ _. ⌜ now (buffer .exit) ≡ sets (now (buffer .entry)) at (little 4 x) ⌝ }
-{
-    let b = [x as u8, 0, 0, 0];
-    memory::put_bytes(buffer, at, &b);
-}
-
-fn put_trailer(buffer: &mut [u8], at: usize, r: usize, e: usize)
-    requires { ⌜ at + 16 ≤ length (now buffer) ⌝ }
-    requires { ⌜ (r ≤ 4) × (e ≤ 8) ⌝ }
-    ensures { λ _. ⌜ now (buffer .exit) ≡ sets (now (buffer .entry)) at (trailerBytes r e) ⌝ }
-{
-    memory::put_bytes(buffer, at, &FIXED);
-    let b = [r as u8, e as u8, 0];
-    memory::put_bytes(buffer, at + 5, &b);
-    put_distance(buffer, at + 8, 8 * (r + e));
-    put_distance(buffer, at + 12, 8 * e);
-}
-
-fn put_runs(buffer: &mut [u8], r: usize, runs: [Run; 4])
-    requires { ⌜ (r ≤ 4) × (itemSize * r ≤ length (now buffer)) ⌝ }
-    ensures { λ _. ⌜ now (buffer .exit) ≡ sets (now (buffer .entry)) 0 (joined r (runBytesAt (fieldsOf r 0 runs []))) ⌝ }
-{
-    let mut k: usize = 0;
-    while k < r {
-        let x = runs[k];
-        put_run(buffer, 8 * k, x);
-        k += 1;
-    }
-}
-
-fn put_entries(buffer: &mut [u8], at: usize, e: usize, entries: [Entry; 8])
-    requires { ⌜ (e ≤ 8) × (at + itemSize * e ≤ length (now buffer)) ⌝ }
-    ensures { λ _. ⌜ now (buffer .exit) ≡ sets (now (buffer .entry)) at (joined e (entryBytesAt (fieldsOf 0 e [] entries))) ⌝ }
-{
-    let mut k: usize = 0;
-    while k < e {
-        let x = entries[k];
-        put_entry(buffer, at + 8 * k, x);
-        k += 1;
-    }
-}
-
 pub fn write(f: Fields, buffer: &mut [u8]) -> Written
     ensures { λ x. ⌜ wrote x (now (buffer .exit)) ≡ writeManifest f (now (buffer .entry)) ⌝ }
 {
@@ -313,14 +232,14 @@ pub fn write(f: Fields, buffer: &mut [u8]) -> Written
     }
     let r = f.r;
     let e = f.e;
-    let n = 8 * (r + e) + 16;
+    let n = ITEM * (r + e) + TRAILER;
     if buffer.len() < n {
         return Written::Refused(BUFFER_SHORT);
     }
     let runs = f.runs;
     let entries = f.entries;
-    put_runs(buffer, r, runs);
-    put_entries(buffer, 8 * r, e, entries);
-    put_trailer(buffer, 8 * (r + e), r, e);
+    parts::put_runs(buffer, r, runs);
+    parts::put_entries(buffer, ITEM * r, e, entries);
+    parts::put_trailer(buffer, ITEM * (r + e), r, e);
     Written::Bytes(n)
 }

@@ -1,5 +1,5 @@
 -- SHA-1's work on one block, FIPS 180-4 sections 4.1.1, 4.2.1 and 6.1.2.
-use Prim.Native.Nat.{ℕ, zero, suc, _+_, _/_}
+use Prim.Native.Nat.{ℕ, zero, suc, _+_, _-_, _/_}
 use mathlib.Core.List.{List, [], _∷_, _++_}
 use lib.ListN.{getD}
 use lib.Bits.{bitXor}
@@ -7,6 +7,20 @@ use Rattle.lists.specs.Below.{table}
 use Rattle.blocks.specs.Blocks.{word}
 use Rattle.rounds.specs.declared.Words.{Words}
 use Rattle.rounds.specs.Word.{plus, rotl, ch, parity, maj}
+
+-- the words of a block, the rounds, and those that have one function and one constant
+abbrev pub firstWords : ℕ
+firstWords = 16
+
+abbrev pub roundCount : ℕ
+roundCount = 80
+
+abbrev pub quarter : ℕ
+quarter = 20
+
+-- the words that follow a block's own, so that each round has its word
+abbrev pub laterWords : ℕ
+laterWords = roundCount - firstWords
 
 -- 6.1.2, 1: W_t for t = n + 16, from the words before it
 unfoldable pub nextWord : List ℕ → ℕ → ℕ
@@ -18,7 +32,7 @@ grown n w = w ++ (nextWord w n ∷ [])
 
 -- the first 16 + n words of the schedule of a block
 unfoldable pub schedule : List ℕ → ℕ → List ℕ
-schedule b zero = table (word b) 16
+schedule b zero = table (word b) firstWords
 schedule b (suc n) = grown n (schedule b n)
 
 -- 4.1.1: the function of the quarter q = t / 20 of the rounds
@@ -46,7 +60,7 @@ round q w s = stepped (mix q (s .b) (s .c) (s .d)) (constant q) w s
 -- the first n rounds over the words w
 unfoldable pub rounds : List ℕ → ℕ → Words → Words
 rounds w zero s = s
-rounds w (suc n) s = round (n / 20) (getD w n 0) (rounds w n s)
+rounds w (suc n) s = round (n / quarter) (getD w n 0) (rounds w n s)
 
 -- 6.1.2, 4: the next intermediate hash value
 unfoldable pub sums : Words → Words → Words
@@ -54,4 +68,4 @@ sums h s = record { a = plus (h .a) (s .a); b = plus (h .b) (s .b); c = plus (h 
 
 -- 6.1.2: one block
 unfoldable pub compress : Words → List ℕ → Words
-compress h b = sums h (rounds (schedule b 64) 80 h)
+compress h b = sums h (rounds (schedule b laterWords) roundCount h)

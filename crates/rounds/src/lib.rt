@@ -1,7 +1,22 @@
 ghost use mathlib.Core.Path.{_≡_};
 ghost use lib.ListN.{length};
 ghost use Rattle.rounds.specs.Word as Word;
+ghost use Rattle.blocks.specs.Blocks.{blockSize};
 ghost use Rattle.rounds.specs.Rounds as Rounds;
+
+// The words of a block, the rounds, and the words that follow a block's own.
+const FIRST: usize = 16;
+
+const ROUNDS: usize = 80;
+
+const LATER: usize = ROUNDS - FIRST;
+
+// The rounds that have one function and one constant, and where the second and the third of these quarters end.
+const QUARTER: usize = 20;
+
+const SECOND: usize = 2 * QUARTER;
+
+const THIRD: usize = 3 * QUARTER;
 
 #[repr(C)]
 pub struct Words {
@@ -102,19 +117,19 @@ fn sums(h: Words, s: Words) -> Words
     }
 }
 
-fn schedule(b: &[u8]) -> [u32; 80]
-    requires { ⌜ length (now b) ≡ 64 ⌝ }
-    ensures { λ r. ⌜ r ≡ Rounds.schedule (now (b .entry)) 64 ⌝ }
+fn schedule(b: &[u8]) -> [u32; ROUNDS]
+    requires { ⌜ length (now b) ≡ blockSize ⌝ }
+    ensures { λ r. ⌜ r ≡ Rounds.schedule (now (b .entry)) Rounds.laterWords ⌝ }
 {
-    let mut w = [0u32; 80];
+    let mut w = [0u32; ROUNDS];
     let mut t: usize = 0;
-    while t < 16 {
-        w[t] = blocks::word(b, t * 4);
+    while t < FIRST {
+        w[t] = blocks::word(b, t * blocks::WORD);
         t += 1;
     }
     let mut n: usize = 0;
-    while n < 64 {
-        w[n + 16] = rotl1(w[n + 13] ^ w[n + 8] ^ w[n + 2] ^ w[n]);
+    while n < LATER {
+        w[n + FIRST] = rotl1(w[n + 13] ^ w[n + 8] ^ w[n + 2] ^ w[n]);
         n += 1;
     }
     w
@@ -122,25 +137,25 @@ fn schedule(b: &[u8]) -> [u32; 80]
 
 // One block.
 pub fn compress(h: Words, b: &[u8]) -> Words
-    requires { ⌜ length (now b) ≡ 64 ⌝ }
+    requires { ⌜ length (now b) ≡ blockSize ⌝ }
     ensures { λ r. ⌜ r ≡ Rounds.compress h (now (b .entry)) ⌝ }
 {
     let w = schedule(b);
     let mut s = h;
     let mut t: usize = 0;
-    while t < 20 {
+    while t < QUARTER {
         s = step0(s, w[t]);
         t += 1;
     }
-    while t < 40 {
+    while t < SECOND {
         s = step1(s, w[t]);
         t += 1;
     }
-    while t < 60 {
+    while t < THIRD {
         s = step2(s, w[t]);
         t += 1;
     }
-    while t < 80 {
+    while t < ROUNDS {
         s = step3(s, w[t]);
         t += 1;
     }

@@ -3,7 +3,7 @@ use mathlib.Core.Path.{_≡_}
 use Prim.Native.Nat.{ℕ, _+_, _%_, _^_}
 use mathlib.Core.List.{List, _++_}
 use lib.ListN.{length}
-use Rattle.blocks.specs.Blocks.{folded, closing, whole}
+use Rattle.blocks.specs.Blocks.{blockSize, folded, closing, whole}
 use Rattle.sha1.specs.declared.Hashing.{Hashing}
 use Rattle.rounds.specs.Rounds.{compress}
 use Rattle.sha1.specs.Sha1.{first, bytesOf}
@@ -24,4 +24,4 @@ finishedOf h l = bytesOf (folded compress (h .words) (l ++ closing (length l) (h
 pub record Holds (h : Hashing) (m : List ℕ) : Type 0 where
   pub state : h .words ≡ folded compress first m
   pub count : h .size ≡ length m % 2 ^ 64
-  pub cut : length m % 64 ≡ 0
+  pub cut : length m % blockSize ≡ 0

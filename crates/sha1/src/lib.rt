@@ -8,6 +8,7 @@ ghost use Rattle.sha1.specs.Sha1 as Sha1;
 ghost use Rattle.sha1.specs.Parts as Parts;
 ghost use Rattle.sha1.specs.Laws.{Laws};
 ghost use Rattle.sha1.specs.Examples.{Examples};
+use geometry::Geometry;
 
 // The words after the whole blocks of p. The one call of compress: LLVM inlines it here.
 fn folded(h: rounds::Words, p: &[u8]) -> rounds::Words
@@ -15,10 +16,10 @@ fn folded(h: rounds::Words, p: &[u8]) -> rounds::Words
 {
     let mut s = h;
     let mut n: usize = 0;
-    let k = p.len() / 64;
+    let k = p.len() / blocks::BLOCK;
     while n < k {
-        let at = n * 64;
-        let e = at + 64;
+        let at = n * blocks::BLOCK;
+        let e = at + blocks::BLOCK;
         s = rounds::compress(s, &p[at..e]);
         n += 1;
     }
@@ -34,7 +35,7 @@ pub struct Hashing {
 
 #[repr(C)]
 pub struct Digest {
-    pub bytes: [u8; 20],
+    pub bytes: [u8; Geometry::DIGEST],
 }
 
 pub fn start() -> Hashing
@@ -58,7 +59,7 @@ pub fn taken(h: Hashing, part: &[u8]) -> Hashing
     ensures { λ r. ⌜ r ≡ Parts.takenIn h (now (part .entry)) ⌝ }
 {
     let words = folded(h.words, part);
-    let whole = part.len() / 64 * 64;
+    let whole = part.len() / blocks::BLOCK * blocks::BLOCK;
     Hashing {
         words: words,
         size: std::num::wrapping_add_usize(h.size, whole),
@@ -71,8 +72,8 @@ fn low(x: u32) -> u8
     (x % 256) as u8
 }
 
-fn big4(x: u32) -> [u8; 4]
-    ensures { λ r. ⌜ r ≡ big 4 x ⌝ }
+fn big4(x: u32) -> [u8; blocks::WORD]
+    ensures { λ r. ⌜ r ≡ big Blocks.wordSize x ⌝ }
 {
     let x1 = x / 256;
     let x2 = x1 / 256;
@@ -137,15 +138,15 @@ pub fn hash_pair(x: Digest, y: Digest) -> Digest
 {
     let p = x.bytes;
     let q = y.bytes;
-    let mut b = [0u8; 40];
+    let mut b = [0u8; 2 * Geometry::DIGEST];
     let mut i: usize = 0;
-    while i < 20 {
+    while i < Geometry::DIGEST {
         b[i] = p[i];
         i += 1;
     }
     let mut j: usize = 0;
-    while j < 20 {
-        b[20 + j] = q[j];
+    while j < Geometry::DIGEST {
+        b[Geometry::DIGEST + j] = q[j];
         j += 1;
     }
     hash(&b)

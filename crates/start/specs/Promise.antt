@@ -5,7 +5,7 @@ use mathlib.Core.Bool.{true}
 use Rattle.geometry.specs.Geometry.{pageSize, leastPages, mostPages}
 use Rattle.state.specs.Zero.{zeroState}
 use Rattle.wellformed.specs.WellFormed.{wellFormed}
-use Rattle.start.specs.Start.{startOf}
+use Rattle.start.specs.Start.{outOfRange, startOf}
 
 -- "P pages, 2 to 1,024", "the top M pages, 1 to P−1"
 abbrev pub InRange : ℕ → ℕ → Type 0
@@ -15,4 +15,4 @@ abbrev pub Accepts : Type 0
 Accepts = (p m : ℕ) → InRange p m → (startOf p m .refusal ≡ 0) × (wellFormed (startOf p m .state) (p * pageSize) ≡ true)
 
 abbrev pub Refuses : Type 0
-Refuses = (p m : ℕ) → (InRange p m → ⊥) → startOf p m ≡ record { refusal = 4; state = zeroState }
+Refuses = (p m : ℕ) → (InRange p m → ⊥) → startOf p m ≡ record { refusal = outOfRange; state = zeroState }

@@ -22,6 +22,9 @@ bare p m owner = record { pages = p; kept = m; owner = owner; slots = replicate 
 unfoldable pub freshState : ℕ → ℕ → State
 freshState p m = bare p m (table (freshOwner p m) mostPages)
 
--- refusal 0 is none
+-- "4: .. P or M out of range"; refusal 0 is none
+abbrev pub outOfRange : ℕ
+outOfRange = 4
+
 unfoldable pub startOf : ℕ → ℕ → Started
-startOf p m = pick (sizesRight p m) (record { refusal = 0; state = freshState p m }) (record { refusal = 4; state = zeroState })
+startOf p m = pick (sizesRight p m) (record { refusal = 0; state = freshState p m }) (record { refusal = outOfRange; state = zeroState })

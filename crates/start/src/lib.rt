@@ -11,6 +11,9 @@ use state::Running;
 use state::Slot;
 use state::State;
 
+// "4: .. P or M out of range"
+const OUT_OF_RANGE: u8 = 4;
+
 // A state, or the number of the refusal; 0 is none.
 pub struct Started {
     pub refusal: u8,
@@ -34,9 +37,9 @@ fn fresh_owner(p: usize, m: usize) -> [u8; Geometry::MOST_PAGES]
     requires { ⌜ m ≤ p ⌝ }
     ensures { λ r. ⌜ r ≡ table (freshOwner p m) mostPages ⌝ }
 {
-    let mut owner = [0u8; 1024];
+    let mut owner = [0u8; Geometry::MOST_PAGES];
     let mut i: usize = 0;
-    while i < 1024 {
+    while i < Geometry::MOST_PAGES {
         owner[i] = fresh_page(p, m, i);
         i += 1;
     }
@@ -51,7 +54,7 @@ fn bare_state(p: usize, m: usize, owner: [u8; Geometry::MOST_PAGES]) -> State
         pages: p,
         kept: m,
         owner: owner,
-        slots: [free; 8],
+        slots: [free; Geometry::SLOTS],
         mode: Mode::Legacy,
         running: Running {
             slot: 0,
@@ -72,9 +75,9 @@ pub fn start(pages: usize, kept: usize) -> Started
             state: fresh,
         };
     }
-    let none = bare_state(0, 0, [0u8; 1024]);
+    let none = bare_state(0, 0, [0u8; Geometry::MOST_PAGES]);
     Started {
-        refusal: 4,
+        refusal: OUT_OF_RANGE,
         state: none,
     }
 }

@@ -72,17 +72,19 @@ impl Slot {
         let fields = Fields {
             r: 0,
             e: 0,
-            runs: [run; 4],
-            entries: [entry; 8],
+            runs: [run; Fields::RUNS],
+            entries: [entry; Fields::ENTRIES],
         };
-        let pcr = Digest { bytes: [0u8; 20] };
+        let pcr = Digest {
+            bytes: [0u8; Geometry::DIGEST],
+        };
         Slot {
             card: Card {
                 registered: false,
                 mark: 0,
                 fields: fields,
             },
-            pcrs: [pcr; 8],
+            pcrs: [pcr; Geometry::PCRS],
         }
     }
 
@@ -109,7 +111,7 @@ impl Slot {
     {
         let fields = self.card.fields;
         let mut i: usize = 0;
-        while i < 8 {
+        while i < Fields::ENTRIES {
             let x = fields.entries[i];
             let used = i < fields.e;
             if used & (x.address as usize == address) {

@@ -7,8 +7,11 @@
 ghost use Prim.Native.Nat.{_≤_, _<_};
 ghost use lib.ListN.{length};
 ghost use mathlib.Core.Path.{_≡_};
+use geometry::Geometry;
 use libc::STDIN_FILENO;
 use libc::STDOUT_FILENO;
+
+const HEADER: usize = 32;
 
 struct Run {
     hashing: sha1::Hashing,
@@ -18,16 +21,16 @@ struct Run {
 }
 
 struct Header {
-    bytes: [u8; 32],
+    bytes: [u8; HEADER],
     whole: bool,
 }
 
 fn next_header() -> Header {
-    let mut b = [0u8; 32];
+    let mut b = [0u8; HEADER];
     let n = io::read_full(STDIN_FILENO, &mut b);
     Header {
         bytes: b,
-        whole: n == 32,
+        whole: n == HEADER,
     }
 }
 
@@ -37,10 +40,10 @@ fn wide(x: u8) -> usize
     x as usize
 }
 
-fn digest_in(h: [u8; 32]) -> sha1::Digest {
-    let mut b = [0u8; 20];
+fn digest_in(h: [u8; HEADER]) -> sha1::Digest {
+    let mut b = [0u8; Geometry::DIGEST];
     let mut i: usize = 0;
-    while i < 20 {
+    while i < Geometry::DIGEST {
         b[i] = h[12 + i];
         i += 1;
     }
@@ -52,23 +55,23 @@ fn is_same(x: sha1::Digest, y: sha1::Digest) -> bool {
     let q = y.bytes;
     let mut ok = true;
     let mut i: usize = 0;
-    while i < 20 {
+    while i < Geometry::DIGEST {
         ok = ok & (p[i] == q[i]);
         i += 1;
     }
     ok
 }
 
-fn three(x: sha1::Digest, y: sha1::Digest, z: sha1::Digest) -> [u8; 60] {
+fn three(x: sha1::Digest, y: sha1::Digest, z: sha1::Digest) -> [u8; 3 * Geometry::DIGEST] {
     let p = x.bytes;
     let q = y.bytes;
     let r = z.bytes;
-    let mut b = [0u8; 60];
+    let mut b = [0u8; 3 * Geometry::DIGEST];
     let mut i: usize = 0;
-    while i < 20 {
+    while i < Geometry::DIGEST {
         b[i] = p[i];
-        b[20 + i] = q[i];
-        b[40 + i] = r[i];
+        b[Geometry::DIGEST + i] = q[i];
+        b[2 * Geometry::DIGEST + i] = r[i];
         i += 1;
     }
     b
@@ -164,7 +167,7 @@ fn with_part(r: Run, kind: u8, n: usize) -> Run
     with_digest(r, sha1::hash(&space[..n]))
 }
 
-fn stepped(r: Run, h: [u8; 32]) -> Run {
+fn stepped(r: Run, h: [u8; HEADER]) -> Run {
     let kind = h[0];
     let d = digest_in(h);
     if kind == b's' {
@@ -187,7 +190,7 @@ fn stepped(r: Run, h: [u8; 32]) -> Run {
 
 fn begun() -> Run {
     let k = sha1::start();
-    let b = [0u8; 20];
+    let b = [0u8; Geometry::DIGEST];
     let d = sha1::Digest { bytes: b };
     Run {
         hashing: k,

@@ -4,11 +4,6 @@ use Rattle.manifest.specs.Reader.{entryOf}
 use borrow.Author.Needs.{needs}
 use Rattle.manifest.proofs.entry_at.Statement.{statement}
 use Rattle.manifest.proofs.entry_at.Tie as tie
-use Rattle.manifest.proofs.entry_at.Reads as reads
-use Rattle.manifest.proofs.entry_at.Lts as lts
-use Rattle.keeps.proofs.lengths_right.Reads as lengths-right-reads
-use Rattle.manifest.proofs.u16_at.Reads as u16-at-reads
-use Rattle.manifest.proofs.u32_at.Reads as u32-at-reads
 
 u32-at-requires : tie.Need-u32-at-requires
 u32-at-requires c κs = search needs

@@ -12,13 +12,6 @@ use borrow.Author.Needs.{needs}
 use native.Mathlib.Omega.{arith}
 use Rattle.manifest.proofs.read.Statement.{statement}
 use Rattle.manifest.proofs.read.Tie as tie
-use Rattle.manifest.proofs.read.Reads as reads
-use Rattle.manifest.proofs.read.Lts as lts
-use Rattle.keeps.proofs.keeps.Reads as keeps-reads
-use Rattle.manifest.proofs.entry_at.Reads as entry-at-reads
-use Rattle.manifest.proofs.refused.Reads as refused-reads
-use Rattle.manifest.proofs.run_at.Reads as run-at-reads
-use Rattle.manifest.proofs.trailer.Reads as trailer-reads
 
 abbrev Inv-loop : tie.InvT-loop
 Inv-loop bytes r e entries₀ i₀ entries i = Got bytes r e × ((i ≤ e) × (entries ≡ placed 8 i e (entryInAt bytes r) noEntry))

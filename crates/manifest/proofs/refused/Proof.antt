@@ -2,8 +2,6 @@ use mathlib.Core.Path.{_≡_, refl, sym, _∙_, ap}
 use Rattle.manifest.specs.Reader.{refusedReading}
 use Rattle.manifest.proofs.refused.Statement.{statement}
 use Rattle.manifest.proofs.refused.Tie as tie
-use Rattle.manifest.proofs.refused.Reads as reads
-use Rattle.manifest.proofs.refused.Lts as lts
 
 returns : tie.Need-returns
 unfolding refusedReading

@@ -5,11 +5,6 @@ use Rattle.manifest.specs.Reader.{runOf}
 use borrow.Author.Needs.{needs}
 use Rattle.manifest.proofs.run_at.Statement.{statement}
 use Rattle.manifest.proofs.run_at.Tie as tie
-use Rattle.manifest.proofs.run_at.Reads as reads
-use Rattle.manifest.proofs.run_at.Lts as lts
-use Rattle.keeps.proofs.run_right.Reads as run-right-reads
-use Rattle.manifest.proofs.u16_at.Reads as u16-at-reads
-use Rattle.manifest.proofs.u32_at.Reads as u32-at-reads
 
 shared-slice-read-zero : tie.Need-shared-slice-read-zero
 shared-slice-read-zero c = search needs

@@ -3,9 +3,6 @@ use Rattle.manifest.proofs.Equal.{equal-is}
 use borrow.Author.Needs.{needs}
 use Rattle.manifest.proofs.same.Statement.{statement}
 use Rattle.manifest.proofs.same.Tie as tie
-use Rattle.manifest.proofs.same.Reads as reads
-use Rattle.manifest.proofs.same.Lts as lts
-use Rattle.check.proofs.same.Reads as same-reads
 
 same-requires : tie.Need-same-requires
 same-requires c κs = search needs

@@ -9,12 +9,6 @@ use mathlib.Core.Path.{_≡_, refl, sym, _∙_, ap}
 use borrow.Author.Needs.{needs}
 use Rattle.manifest.proofs.trailer.Statement.{statement}
 use Rattle.manifest.proofs.trailer.Tie as tie
-use Rattle.manifest.proofs.trailer.Reads as reads
-use Rattle.manifest.proofs.trailer.Lts as lts
-use Rattle.keeps.proofs.counts_right.Reads as counts-right-reads
-use Rattle.manifest.proofs.byte_at.Reads as byte-at-reads
-use Rattle.manifest.proofs.same.Reads as same-reads
-use Rattle.manifest.proofs.u32_at.Reads as u32-at-reads
 
 returns : tie.Need-returns
 returns c = trailer-short _ (c .if1 .taken)

@@ -3,9 +3,6 @@ use Rattle.manifest.proofs.Widths.{little-at-4}
 use borrow.Author.Needs.{needs}
 use Rattle.manifest.proofs.u32_at.Statement.{statement}
 use Rattle.manifest.proofs.u32_at.Tie as tie
-use Rattle.manifest.proofs.u32_at.Reads as reads
-use Rattle.manifest.proofs.u32_at.Lts as lts
-use Rattle.manifest.proofs.wide.Reads as wide-reads
 
 shared-slice-read-wide : tie.Need-shared-slice-read-wide
 shared-slice-read-wide c = search needs

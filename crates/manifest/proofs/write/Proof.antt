@@ -12,12 +12,6 @@ use mathlib.Core.Path.{_≡_, refl, sym, _∙_, ap}
 use borrow.Author.Needs.{needs}
 use Rattle.manifest.proofs.write.Statement.{statement}
 use Rattle.manifest.proofs.write.Tie as tie
-use Rattle.manifest.proofs.write.Reads as reads
-use Rattle.manifest.proofs.write.Lts as lts
-use Rattle.keeps.proofs.keeps_rules.Reads as keeps-rules-reads
-use Rattle.manifest.proofs.put_entries.Reads as put-entries-reads
-use Rattle.manifest.proofs.put_runs.Reads as put-runs-reads
-use Rattle.manifest.proofs.put_trailer.Reads as put-trailer-reads
 
 -- past the first test the fields keep the rules
 is : (c : tie.Else1) → keepsRules (c .before .before .before .args .f) ≡ true

@@ -1,11 +1,7 @@
 use Rattle.manifest.proofs.Puts.{trailer-put}
 use borrow.Author.Needs.{needs}
-use Rattle.manifest.proofs.put_trailer.Statement.{statement}
-use Rattle.manifest.proofs.put_trailer.Tie as tie
-use Rattle.manifest.proofs.put_trailer.Reads as reads
-use Rattle.manifest.proofs.put_trailer.Lts as lts
-use Rattle.manifest.proofs.put_distance.Reads as put-distance-reads
-use Rattle.memory.proofs.put_bytes.Reads as put-bytes-reads
+use Rattle.manifest.proofs.parts.put_trailer.Statement.{statement}
+use Rattle.manifest.proofs.parts.put_trailer.Tie as tie
 
 slice-aggregate-put-bytes : tie.Need-slice-aggregate-put-bytes
 slice-aggregate-put-bytes c = search needs

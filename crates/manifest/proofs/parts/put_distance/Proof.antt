@@ -3,11 +3,8 @@ use Rattle.manifest.proofs.Puts.{distance-bytes}
 use native.Mathlib.Omega.{arith}
 use mathlib.Core.Path.{_≡_, refl, sym, _∙_, ap}
 use borrow.Author.Needs.{needs}
-use Rattle.manifest.proofs.put_distance.Statement.{statement}
-use Rattle.manifest.proofs.put_distance.Tie as tie
-use Rattle.manifest.proofs.put_distance.Reads as reads
-use Rattle.manifest.proofs.put_distance.Lts as lts
-use Rattle.memory.proofs.put_bytes.Reads as put-bytes-reads
+use Rattle.manifest.proofs.parts.put_distance.Statement.{statement}
+use Rattle.manifest.proofs.parts.put_distance.Tie as tie
 
 cast-t5 : tie.Need-cast-t5
 cast-t5 c = search needs

@@ -2,11 +2,8 @@ use lib.Seq.{sets}
 use Rattle.manifest.proofs.Puts.{entry-bytes}
 use mathlib.Core.Path.{_≡_, refl, sym, _∙_, ap}
 use borrow.Author.Needs.{needs}
-use Rattle.manifest.proofs.put_entry.Statement.{statement}
-use Rattle.manifest.proofs.put_entry.Tie as tie
-use Rattle.manifest.proofs.put_entry.Reads as reads
-use Rattle.manifest.proofs.put_entry.Lts as lts
-use Rattle.memory.proofs.put_bytes.Reads as put-bytes-reads
+use Rattle.manifest.proofs.parts.put_entry.Statement.{statement}
+use Rattle.manifest.proofs.parts.put_entry.Tie as tie
 
 cast-t9 : tie.Need-cast-t9
 cast-t9 c = search needs

@@ -9,11 +9,8 @@ use Prim.Native.Nat.{ℕ, _≤_, _<_, _-_, _+_, _*_}
 use mathlib.Core.Path.{_≡_, refl, sym, _∙_, ap}
 use borrow.Author.Needs.{needs}
 use native.Mathlib.Omega.{arith}
-use Rattle.manifest.proofs.put_entries.Statement.{statement}
-use Rattle.manifest.proofs.put_entries.Tie as tie
-use Rattle.manifest.proofs.put_entries.Reads as reads
-use Rattle.manifest.proofs.put_entries.Lts as lts
-use Rattle.manifest.proofs.put_entry.Reads as put-entry-reads
+use Rattle.manifest.proofs.parts.put_entries.Statement.{statement}
+use Rattle.manifest.proofs.parts.put_entries.Tie as tie
 
 abbrev Inv-loop : tie.InvT-loop
 Inv-loop buffer₀ at e entries k₀ buffer k = (k ≤ e) × ((buffer ≡ sets buffer₀ at (joined k (entryBytesAt (fieldsOf 0 e [] entries)))) × (length buffer ≡ length buffer₀))

@@ -2,11 +2,8 @@ use lib.Seq.{sets}
 use Rattle.manifest.proofs.Puts.{run-bytes}
 use mathlib.Core.Path.{_≡_, refl, sym, _∙_, ap}
 use borrow.Author.Needs.{needs}
-use Rattle.manifest.proofs.put_run.Statement.{statement}
-use Rattle.manifest.proofs.put_run.Tie as tie
-use Rattle.manifest.proofs.put_run.Reads as reads
-use Rattle.manifest.proofs.put_run.Lts as lts
-use Rattle.memory.proofs.put_bytes.Reads as put-bytes-reads
+use Rattle.manifest.proofs.parts.put_run.Statement.{statement}
+use Rattle.manifest.proofs.parts.put_run.Tie as tie
 
 cast-t8 : tie.Need-cast-t8
 cast-t8 c = search needs

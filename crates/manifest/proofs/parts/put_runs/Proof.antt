@@ -9,11 +9,8 @@ use Prim.Native.Nat.{ℕ, _≤_, _<_, _-_, _+_, _*_}
 use mathlib.Core.Path.{_≡_, refl, sym, _∙_, ap}
 use borrow.Author.Needs.{needs}
 use native.Mathlib.Omega.{arith}
-use Rattle.manifest.proofs.put_runs.Statement.{statement}
-use Rattle.manifest.proofs.put_runs.Tie as tie
-use Rattle.manifest.proofs.put_runs.Reads as reads
-use Rattle.manifest.proofs.put_runs.Lts as lts
-use Rattle.manifest.proofs.put_run.Reads as put-run-reads
+use Rattle.manifest.proofs.parts.put_runs.Statement.{statement}
+use Rattle.manifest.proofs.parts.put_runs.Tie as tie
 
 abbrev Inv-loop : tie.InvT-loop
 Inv-loop buffer₀ r runs k₀ buffer k = (k ≤ r) × ((buffer ≡ sets buffer₀ 0 (joined k (runBytesAt (fieldsOf r 0 runs [])))) × (length buffer ≡ length buffer₀))
