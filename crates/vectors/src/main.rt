@@ -13,6 +13,9 @@ use libc::STDOUT_FILENO;
 
 const HEADER: usize = 32;
 
+// Where the third of three digests begins.
+const THIRD: usize = 2 * Geometry::DIGEST;
+
 struct Run {
     hashing: sha1::Hashing,
     digest: sha1::Digest,
@@ -71,7 +74,7 @@ fn three(x: sha1::Digest, y: sha1::Digest, z: sha1::Digest) -> [u8; 3 * Geometry
     while i < Geometry::DIGEST {
         b[i] = p[i];
         b[Geometry::DIGEST + i] = q[i];
-        b[2 * Geometry::DIGEST + i] = r[i];
+        b[THIRD + i] = r[i];
         i += 1;
     }
     b
