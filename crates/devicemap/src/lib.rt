@@ -5,8 +5,8 @@ ghost use lib.ListN.{length};
 ghost use lib.Seq.{sets};
 ghost use Rattle.lists.specs.Below.{table};
 ghost use Rattle.geometry.specs.Geometry.{mostPages};
-ghost use Rattle.devicemap.specs.Map.{shutIn, byteIn, mapped, bufferAfter};
-ghost use Rattle.devicemap.specs.Promise.{EachBit, Examples};
+ghost use Rattle.devicemap.specs.Map.{mapLength, shutIn, byteIn, mapped, bufferAfter};
+ghost use Rattle.devicemap.specs.Promise.{EachBit};
 use geometry::Geometry;
 use state::State;
 
@@ -30,7 +30,7 @@ fn shut(owner: &[u8; Geometry::MOST_PAGES], pages: usize, p: usize) -> u8
 }
 
 fn map_byte(owner: &[u8; Geometry::MOST_PAGES], pages: usize, i: usize) -> u8
-    requires { ⌜ (pages ≤ mostPages) × (i < 128) ⌝ }
+    requires { ⌜ (pages ≤ mostPages) × (i < mapLength mostPages) ⌝ }
     ensures { λ r. ⌜ r ≡ byteIn (now (owner .entry)) pages i ⌝ }
 {
     let mut bits: u8 = 0;
@@ -44,7 +44,7 @@ fn map_byte(owner: &[u8; Geometry::MOST_PAGES], pages: usize, i: usize) -> u8
 }
 
 fn fill(owner: &[u8; Geometry::MOST_PAGES], pages: usize, n: usize, buffer: &mut [u8])
-    requires { ⌜ (pages ≤ mostPages) × ((n ≤ 128) × (n ≤ length (now buffer))) ⌝ }
+    requires { ⌜ (pages ≤ mostPages) × ((n ≤ mapLength mostPages) × (n ≤ length (now buffer))) ⌝ }
     ensures { λ _. ⌜ now (buffer .exit) ≡ sets (now (buffer .entry)) 0 (table (byteIn (now (owner .entry)) pages) n) ⌝ }
 {
     let mut i: usize = 0;
@@ -71,8 +71,4 @@ pub fn device_map(s: State, buffer: &mut [u8]) -> Mapped
 // What the map promises beyond its contract, held by name.
 pub fn each_bit()
     ensures { λ _. ⌜ EachBit ⌝ }
-{}
-
-pub fn examples()
-    ensures { λ _. ⌜ Examples ⌝ }
 {}
