@@ -1,4 +1,4 @@
--- The map's bits, its examples, and the turns of the loop that fills the buffer.
+-- The map's bits, and the turns of the loop that fills the buffer.
 use Prim.Native.Nat.{ℕ, zero, suc, _+_, _*_, _/_, _%_, _^_, _≤_, _<_}
 use native.Mathlib.Nat.{zero-add, div-add-mod}
 use native.Mathlib.Omega.{arith}
@@ -14,9 +14,8 @@ use Rattle.lists.proofs.Parts.{sets-turn}
 use Rattle.lists.proofs.Tables.{table-at, table-long, table-more, table-same}
 use Rattle.state.specs.declared.State.{State}
 use Rattle.state.specs.Face.{Face, faceOf, isOpen}
-use Rattle.start.specs.Start.{freshState, startOf}
-use Rattle.devicemap.specs.Map.{numberOf, shutBit, mapByte, mapLength, mapOf, shutIn, bitIn, byteIn}
-use Rattle.devicemap.specs.Promise.{EachBit, Examples}
+use Rattle.devicemap.specs.Map.{shutBit, mapByte, mapLength, mapOf, shutIn, bitIn, byteIn}
+use Rattle.devicemap.specs.Promise.{EachBit}
 use Rattle.devicemap.proofs.Bits.{number-bit}
 
 pub bit-most : (t : Bool) → pick t 0 1 ≤ 1
@@ -33,10 +32,6 @@ each-bit f p l =
     rw (table-at (mapByte f) (mapLength (f .pages)) (p / 8) 0 i)
     (number-bit (λ j. shutBit f (8 * (p / 8) + j)) (λ j. bit-most (isOpen f (8 * (p / 8) + j))) 8 (p % 8) (omega arith)
     ∙ ap (shutBit f) (div-add-mod p 8))
-
-pub examples : Examples
-unfolding startOf freshState table mapOf mapByte numberOf
-examples = (refl, (refl, refl))
 
 -- the map is the table's, as the code is handed it
 pub map-same : (s : State) → table (byteIn (s .owner) (s .pages)) (mapLength (s .pages)) ≡ mapOf (faceOf s)

@@ -5,8 +5,9 @@ ghost use lib.ListN.{length};
 ghost use lib.Seq.{sets};
 ghost use Rattle.lists.specs.Below.{table};
 ghost use Rattle.geometry.specs.Geometry.{mostPages};
-ghost use Rattle.devicemap.specs.Map.{shutIn, byteIn, mapped, bufferAfter};
-ghost use Rattle.devicemap.specs.Promise.{EachBit, Examples};
+ghost use Rattle.devicemap.specs.Map.{mapLength, shutIn, byteIn, mapped, bufferAfter};
+ghost use Rattle.devicemap.specs.Promise.{EachBit};
+use geometry::Geometry;
 use state::State;
 
 // So many bytes of the buffer, or the number of the refusal.
@@ -15,7 +16,7 @@ pub enum Mapped {
     Refused(u8),
 }
 
-fn shut(owner: &[u8; 1024], pages: usize, p: usize) -> u8
+fn shut(owner: &[u8; Geometry::MOST_PAGES], pages: usize, p: usize) -> u8
     requires { ⌜ pages ≤ mostPages ⌝ }
     ensures { λ r. ⌜ (r ≡ shutIn (now (owner .entry)) pages p) × (r ≤ 1) ⌝ }
 {
@@ -28,8 +29,8 @@ fn shut(owner: &[u8; 1024], pages: usize, p: usize) -> u8
     1
 }
 
-fn map_byte(owner: &[u8; 1024], pages: usize, i: usize) -> u8
-    requires { ⌜ (pages ≤ mostPages) × (i < 128) ⌝ }
+fn map_byte(owner: &[u8; Geometry::MOST_PAGES], pages: usize, i: usize) -> u8
+    requires { ⌜ (pages ≤ mostPages) × (i < mapLength mostPages) ⌝ }
     ensures { λ r. ⌜ r ≡ byteIn (now (owner .entry)) pages i ⌝ }
 {
     let mut bits: u8 = 0;
@@ -42,8 +43,8 @@ fn map_byte(owner: &[u8; 1024], pages: usize, i: usize) -> u8
     bits
 }
 
-fn fill(owner: &[u8; 1024], pages: usize, n: usize, buffer: &mut [u8])
-    requires { ⌜ (pages ≤ mostPages) × ((n ≤ 128) × (n ≤ length (now buffer))) ⌝ }
+fn fill(owner: &[u8; Geometry::MOST_PAGES], pages: usize, n: usize, buffer: &mut [u8])
+    requires { ⌜ (pages ≤ mostPages) × ((n ≤ mapLength mostPages) × (n ≤ length (now buffer))) ⌝ }
     ensures { λ _. ⌜ now (buffer .exit) ≡ sets (now (buffer .entry)) 0 (table (byteIn (now (owner .entry)) pages) n) ⌝ }
 {
     let mut i: usize = 0;
@@ -70,8 +71,4 @@ pub fn device_map(s: State, buffer: &mut [u8]) -> Mapped
 // What the map promises beyond its contract, held by name.
 pub fn each_bit()
     ensures { λ _. ⌜ EachBit ⌝ }
-{}
-
-pub fn examples()
-    ensures { λ _. ⌜ Examples ⌝ }
 {}

@@ -1,14 +1,13 @@
 // The rules on a manifest's fields, tested: each rule at one place, for the reader, the writer and the state's well-formedness.
-// The inner tests take arrays and counts, not the whole record, so that nothing is copied, and they do not leave their short loops early.
+// The inner tests take arrays and counts, not the whole record, so that nothing is copied; runs and entries are gone over once each.
 ghost use mathlib.Core.Path.{_≡_};
-ghost use mathlib.Core.Bool.{_&&_, _||_};
+ghost use mathlib.Core.Bool.{_&&_};
 ghost use mathlib.Core.List.{[]};
-ghost use Prim.Native.Nat.{ℕ, _≤_, _<_, _-_};
-ghost use lib.Dec.{leb, ltb, eqb};
+ghost use Prim.Native.Nat.{_≤_, _<_};
+ghost use lib.Dec.{leb, eqb};
 ghost use Rattle.lists.specs.Below.{pick, all-below};
-ghost use Rattle.geometry.specs.Geometry.{pageOf};
 ghost use Rattle.fields.specs.Fields.{fieldsOf, endOf};
-ghost use Rattle.fields.specs.Rules.{countsRight, isParam, runRight, runRightAt, runsRise, pagesFew, someCode, oneParam, runsRight, isCode, holds, inCode, lengthsRight, entryRightAt, entriesRise, entriesRight, runZero, entryZero, runFreeAt, entryFreeAt, unusedZero, keepsRules};
+ghost use Rattle.fields.specs.Rules.{countsRight, isParam, runRight, runsRight, isCode, holds, inCode, lengthsRight, entriesRight, runZero, entryZero, runFreeAt, entryFreeAt, keepsRules};
 use fields::Entry;
 use fields::Fields;
 use fields::Run;
@@ -45,65 +44,6 @@ pub fn run_right(x: Run) -> bool
     known & ((1 <= x.count) & (end <= Geometry::MOST_PAGES))
 }
 
-fn runs_each(r: usize, runs: [Run; 4]) -> bool
-    requires { ⌜ r ≤ 4 ⌝ }
-    ensures { λ b. ⌜ b ≡ all-below r (runRightAt (fieldsOf r 0 runs [])) ⌝ }
-{
-    let mut ok = true;
-    let mut i: usize = 0;
-    while i < r {
-        let x = runs[i];
-        ok = ok & run_right(x);
-        i += 1;
-    }
-    ok
-}
-
-fn runs_rise(r: usize, runs: [Run; 4]) -> bool
-    requires { ⌜ (1 ≤ r) × (r ≤ 4) ⌝ }
-    ensures { λ b. ⌜ b ≡ runsRise (fieldsOf r 0 runs []) ⌝ }
-{
-    let n = r - 1;
-    let mut ok = true;
-    let mut i: usize = 0;
-    while i < n {
-        let x = runs[i];
-        let y = runs[i + 1];
-        let end = run_end(x);
-        ok = ok & (end <= y.first as usize);
-        i += 1;
-    }
-    ok
-}
-
-fn pages_few(r: usize, runs: [Run; 4]) -> bool
-    requires { ⌜ r ≤ 4 ⌝ }
-    ensures { λ b. ⌜ b ≡ pagesFew (fieldsOf r 0 runs []) ⌝ }
-{
-    let mut sum: usize = 0;
-    let mut i: usize = 0;
-    while i < r {
-        let x = runs[i];
-        sum += x.count as usize;
-        i += 1;
-    }
-    sum <= Geometry::MOST_HELD
-}
-
-fn some_code(r: usize, runs: [Run; 4]) -> bool
-    requires { ⌜ r ≤ 4 ⌝ }
-    ensures { λ b. ⌜ b ≡ someCode (fieldsOf r 0 runs []) ⌝ }
-{
-    let mut ok = false;
-    let mut i: usize = 0;
-    while i < r {
-        let x = runs[i];
-        ok = ok | (x.kind == 1);
-        i += 1;
-    }
-    ok
-}
-
 // n where the run is a param run, else 0.
 fn if_param(x: Run, n: usize) -> usize
     ensures { λ k. ⌜ (k ≡ pick (isParam x) n 0) × (k ≤ n) ⌝ }
@@ -114,32 +54,32 @@ fn if_param(x: Run, n: usize) -> usize
     0
 }
 
-fn one_param(r: usize, runs: [Run; 4]) -> bool
+// Each run by itself, and what is asked of all: `at` is where the run before ended.
+fn runs_right(r: usize, runs: [Run; 4]) -> bool
     requires { ⌜ r ≤ 4 ⌝ }
-    ensures { λ b. ⌜ b ≡ oneParam (fieldsOf r 0 runs []) ⌝ }
+    ensures { λ b. ⌜ b ≡ runsRight (fieldsOf r 0 runs []) ⌝ }
 {
+    let mut each = true;
+    let mut rise = true;
+    let mut at: usize = 0;
+    let mut held: usize = 0;
+    let mut code = false;
     let mut params: usize = 0;
     let mut pages: usize = 0;
     let mut i: usize = 0;
     while i < r {
         let x = runs[i];
+        each = each & run_right(x);
+        rise = rise & (at <= x.first as usize);
+        at = run_end(x);
+        held += x.count as usize;
+        code = code | (x.kind == 1);
         params += if_param(x, 1);
         pages += if_param(x, x.count as usize);
         i += 1;
     }
-    (params == 1) & (pages == 1)
-}
-
-fn runs_right(r: usize, runs: [Run; 4]) -> bool
-    requires { ⌜ (1 ≤ r) × (r ≤ 4) ⌝ }
-    ensures { λ b. ⌜ b ≡ runsRight (fieldsOf r 0 runs []) ⌝ }
-{
-    let each = runs_each(r, runs);
-    let rise = runs_rise(r, runs);
-    let few = pages_few(r, runs);
-    let code = some_code(r, runs);
-    let param = one_param(r, runs);
-    each & (rise & (few & (code & param)))
+    let few = held <= Geometry::MOST_HELD;
+    each & (rise & (few & (code & ((params == 1) & (pages == 1)))))
 }
 
 // ---- entries
@@ -154,14 +94,15 @@ pub fn in_code(r: usize, runs: [Run; 4], page: usize) -> bool
     requires { ⌜ r ≤ 4 ⌝ }
     ensures { λ b. ⌜ b ≡ inCode (fieldsOf r 0 runs []) page ⌝ }
 {
-    let mut ok = false;
     let mut i: usize = 0;
     while i < r {
         let x = runs[i];
-        ok = ok | code_holds(x, page);
+        if code_holds(x, page) {
+            return true;
+        }
         i += 1;
     }
-    ok
+    false
 }
 
 pub fn lengths_right(x: Entry) -> bool
@@ -170,36 +111,26 @@ pub fn lengths_right(x: Entry) -> bool
     (x.input as usize <= Geometry::HALF) & (x.output as usize <= Geometry::HALF)
 }
 
-fn entries_each(r: usize, e: usize, runs: [Run; 4], entries: [Entry; 8]) -> bool
+// Each entry by itself, and that they rise: `least` is one more than the address before.
+fn entries_right(r: usize, e: usize, runs: [Run; 4], entries: [Entry; 8]) -> bool
     requires { ⌜ (r ≤ 4) × (e ≤ 8) ⌝ }
-    ensures { λ b. ⌜ b ≡ all-below e (entryRightAt (fieldsOf r e runs entries)) ⌝ }
+    ensures { λ b. ⌜ b ≡ entriesRight (fieldsOf r e runs entries) ⌝ }
 {
-    let mut ok = true;
+    let mut each = true;
+    let mut rise = true;
+    let mut least: usize = 0;
     let mut i: usize = 0;
     while i < e {
         let x = entries[i];
-        let inside = in_code(r, runs, Geometry::page_of(x.address as usize));
+        let at = x.address as usize;
+        let inside = in_code(r, runs, Geometry::page_of(at));
         let lengths = lengths_right(x);
-        ok = ok & (inside & lengths);
+        each = each & (inside & lengths);
+        rise = rise & (least <= at);
+        least = at + 1;
         i += 1;
     }
-    ok
-}
-
-fn entries_rise(e: usize, entries: [Entry; 8]) -> bool
-    requires { ⌜ (1 ≤ e) × (e ≤ 8) ⌝ }
-    ensures { λ b. ⌜ b ≡ entriesRise (fieldsOf 0 e [] entries) ⌝ }
-{
-    let n = e - 1;
-    let mut ok = true;
-    let mut i: usize = 0;
-    while i < n {
-        let x = entries[i];
-        let y = entries[i + 1];
-        ok = ok & (x.address < y.address);
-        i += 1;
-    }
-    ok
+    each & rise
 }
 
 // ---- unused places: a number that is 0 where every field of the place is
@@ -251,11 +182,10 @@ pub fn keeps(r: usize, e: usize, runs: [Run; 4], entries: [Entry; 8]) -> bool
         return false;
     }
     let a = runs_right(r, runs);
-    let each = entries_each(r, e, runs, entries);
-    let rise = entries_rise(e, entries);
+    let b = entries_right(r, e, runs, entries);
     let free = runs_unused(r, runs);
     let spare = entries_unused(e, entries);
-    a & ((each & rise) & (free & spare))
+    a & (b & (free & spare))
 }
 
 pub fn keeps_rules(f: Fields) -> bool

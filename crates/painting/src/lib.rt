@@ -6,9 +6,10 @@ ghost use Rattle.lists.specs.Below.{all-below};
 ghost use Rattle.geometry.specs.Geometry.{mostPages};
 ghost use Rattle.painting.specs.Painting.{painted, paintedRuns, ownedFrom, ownedRun, alike, RunsFit};
 use fields::Run;
+use geometry::Geometry;
 
 // n places from f on become v.
-pub fn paint(t: &mut [u8; 1024], f: usize, n: usize, v: u8)
+pub fn paint(t: &mut [u8; Geometry::MOST_PAGES], f: usize, n: usize, v: u8)
     requires { ⌜ f + n ≤ mostPages ⌝ }
     ensures { λ _. ⌜ now (t .exit) ≡ painted (now (t .entry)) f n v ⌝ }
 {
@@ -20,7 +21,7 @@ pub fn paint(t: &mut [u8; 1024], f: usize, n: usize, v: u8)
 }
 
 // Zero where the table has v at n places from f on.
-fn run_off(o: &[u8; 1024], f: usize, n: usize, v: u8) -> u8
+fn run_off(o: &[u8; Geometry::MOST_PAGES], f: usize, n: usize, v: u8) -> u8
     requires { ⌜ f + n ≤ mostPages ⌝ }
     ensures { λ r. ⌜ eqb r 0 ≡ all-below n (ownedFrom (now (o .entry)) f v) ⌝ }
 {
@@ -34,12 +35,12 @@ fn run_off(o: &[u8; 1024], f: usize, n: usize, v: u8) -> u8
 }
 
 // Zero where the two tables are the same.
-pub fn differ(a: &[u8; 1024], b: &[u8; 1024]) -> u8
+pub fn differ(a: &[u8; Geometry::MOST_PAGES], b: &[u8; Geometry::MOST_PAGES]) -> u8
     ensures { λ r. ⌜ eqb r 0 ≡ all-below mostPages (alike (now (a .entry)) (now (b .entry))) ⌝ }
 {
     let mut bad: u8 = 0;
     let mut p: usize = 0;
-    while p < 1024 {
+    while p < Geometry::MOST_PAGES {
         bad = bad | (a[p] ^ b[p]);
         p += 1;
     }
@@ -47,7 +48,7 @@ pub fn differ(a: &[u8; 1024], b: &[u8; 1024]) -> u8
 }
 
 // Zero where the table has v at every page of the n runs.
-pub fn runs_off(o: &[u8; 1024], n: usize, runs: [Run; 4], v: u8) -> u8
+pub fn runs_off(o: &[u8; Geometry::MOST_PAGES], n: usize, runs: [Run; 4], v: u8) -> u8
     requires { ⌜ RunsFit n runs ⌝ }
     ensures { λ r. ⌜ eqb r 0 ≡ all-below n (ownedRun (now (o .entry)) runs v) ⌝ }
 {
@@ -62,7 +63,7 @@ pub fn runs_off(o: &[u8; 1024], n: usize, runs: [Run; 4], v: u8) -> u8
 }
 
 // The pages of the n runs become v.
-pub fn paint_runs(t: &mut [u8; 1024], n: usize, runs: [Run; 4], v: u8)
+pub fn paint_runs(t: &mut [u8; Geometry::MOST_PAGES], n: usize, runs: [Run; 4], v: u8)
     requires { ⌜ RunsFit n runs ⌝ }
     ensures { λ _. ⌜ now (t .exit) ≡ paintedRuns (now (t .entry)) runs v n ⌝ }
 {

@@ -5,3 +5,4 @@ pub mod Zeros
 pub mod States
 pub mod Pages
 pub mod Slots
+pub mod Whole

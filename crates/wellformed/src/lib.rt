@@ -1,23 +1,22 @@
-// Whether a state is well formed (document 01, "Machine and numbers"). Every event asks it, so it is written to be fast: each slot is read once,
-// what the slots say is painted into a table, and the table is compared with the owner table. No slot is copied, since each part has one caller.
+// Whether a state is well formed (document 01, "Machine and numbers"). Every event asks it, so it is written to be fast: one loop reads each slot once
+// and paints what it says into a table, and the table is compared with the owner table. The state stays in one function, since a callee would copy it.
 ghost use mathlib.Core.Path.{_≡_};
-ghost use mathlib.Core.Bool.{true, _&&_, _||_};
+ghost use mathlib.Core.Bool.{_&&_};
 ghost use mathlib.Core.List.{[]};
-ghost use Prim.Native.Nat.{ℕ, _≤_, _<_, _+_};
-ghost use lib.ListN.{getD};
-ghost use lib.Dec.{eqb, ltb};
-ghost use Rattle.lists.specs.Below.{pick, all-below, any-below};
-ghost use Rattle.geometry.specs.Geometry.{mostPages, slotCount, pcrCount, digestSize, isRange, pageOf};
+ghost use Prim.Native.Nat.{_≤_};
+ghost use lib.Dec.{eqb};
+ghost use Rattle.lists.specs.Below.{all-below, any-below};
+ghost use Rattle.geometry.specs.Geometry.{mostPages, digestSize};
 ghost use Rattle.fields.specs.Fields.{fieldsOf, runPlaces, entryPlaces};
 ghost use Rattle.fields.specs.Rules.{keepsRules};
 ghost use Rattle.fields.specs.Pages.{pagesUnder};
-ghost use Rattle.state.specs.Face.{faceOf};
-ghost use Rattle.wellformed.specs.WellFormed.{sizesRight, fieldsZero, runZeroAt, entryZeroAt, byteZeroAt, pcrsZero, cardRight, cardRightAt, heldOnce, ownerRightAt, runningZero, outputAt, runningRight, modeRight, stateRight, wellFormed};
-ghost use Rattle.wellformed.specs.Tests.{slotRight, slotRightAt};
+ghost use Rattle.wellformed.specs.WellFormed.{sizesRight, fieldsZero, runZeroAt, entryZeroAt, byteZeroAt, pcrsZero, runningZero, outputAt, stateRight, wellFormed};
+ghost use Rattle.wellformed.specs.Tests.{slotRight, outTest, runningTest, modeTest};
 use fields::Entry;
 use fields::Run;
 use geometry::Geometry;
 use sha1::Digest;
+use state::Card;
 use state::Mode;
 use state::Running;
 use state::Slot;
@@ -61,19 +60,19 @@ fn pcr_bits(x: Digest) -> u8
 {
     let mut bits: u8 = 0;
     let mut i: usize = 0;
-    while i < 20 {
+    while i < Geometry::DIGEST {
         bits = bits | x.bytes[i];
         i += 1;
     }
     bits
 }
 
-fn pcrs_bits(pcrs: [Digest; 8]) -> u8
+fn pcrs_bits(pcrs: [Digest; Geometry::PCRS]) -> u8
     ensures { λ r. ⌜ eqb r 0 ≡ pcrsZero pcrs ⌝ }
 {
     let mut bits: u8 = 0;
     let mut i: usize = 0;
-    while i < 8 {
+    while i < Geometry::PCRS {
         let x = pcrs[i];
         bits = bits | pcr_bits(x);
         i += 1;
@@ -87,7 +86,7 @@ fn free_right(
     e: usize,
     runs: [Run; 4],
     entries: [Entry; 8],
-    pcrs: [Digest; 8],
+    pcrs: [Digest; Geometry::PCRS],
 ) -> bool
     ensures { λ b. ⌜ b ≡ (eqb mark 0 && fieldsZero (fieldsOf r e runs entries)) && pcrsZero pcrs ⌝ }
 {
@@ -98,27 +97,15 @@ fn free_right(
 }
 
 // ---- registered slots
-fn pages_under(r: usize, runs: [Run; 4], top: usize) -> bool
-    requires { ⌜ r ≤ runPlaces ⌝ }
-    ensures { λ b. ⌜ b ≡ pagesUnder (fieldsOf r 0 runs []) top ⌝ }
-{
-    let mut ok = true;
-    let mut i: usize = 0;
-    while i < r {
-        let x = runs[i];
-        ok = ok & (x.first as usize + x.count as usize <= top);
-        i += 1;
-    }
-    ok
-}
-
+// Runs rise, so that the last one ends highest.
 fn used_right(r: usize, e: usize, runs: [Run; 4], entries: [Entry; 8], top: usize) -> bool
     ensures { λ b. ⌜ b ≡ keepsRules (fieldsOf r e runs entries) && pagesUnder (fieldsOf r e runs entries) top ⌝ }
 {
     if !keeps::keeps(r, e, runs, entries) {
         return false;
     }
-    pages_under(r, runs, top)
+    let x = runs[r - 1];
+    keeps::run_end(x) <= top
 }
 
 fn slot_right(x: Slot, top: usize) -> bool
@@ -132,45 +119,6 @@ fn slot_right(x: Slot, top: usize) -> bool
     }
     let pcrs = x.pcrs;
     free_right(x.card.mark, f.r, f.e, runs, entries, pcrs)
-}
-
-fn slots_right(s: State) -> bool
-    requires { ⌜ s .kept ≤ s .pages ⌝ }
-    ensures { λ r. ⌜ r ≡ all-below slotCount (slotRightAt s) ⌝ }
-{
-    let top = s.pages - s.kept;
-    let mut ok = true;
-    let mut k: usize = 0;
-    while k < Geometry::SLOTS {
-        let x = s.slots[k];
-        ok = ok & slot_right(x, top);
-        k += 1;
-    }
-    ok
-}
-
-// ---- pages
-fn pages_right(s: State) -> bool
-    requires { ⌜ (sizesRight (s .pages) (s .kept) ≡ true) × (all-below slotCount (slotRightAt s) ≡ true) ⌝ }
-    ensures { λ r. ⌜ r ≡ all-below mostPages (heldOnce (faceOf s)) && all-below mostPages (ownerRightAt (faceOf s)) ⌝ }
-{
-    let m = s.kept;
-    let top = s.pages - m;
-    let mut t = [0u8; 1024];
-    painting::paint(&mut t, top, m, 255);
-    let mut bad: u8 = 0;
-    let mut k: usize = 0;
-    while k < 8 {
-        let x = s.slots[k];
-        let f = x.card.fields;
-        let runs = f.runs;
-        let v = (k + 1) as u8;
-        bad = bad | painting::runs_off(&s.owner, f.r, runs, v);
-        painting::paint_runs(&mut t, f.r, runs, v);
-        k += 1;
-    }
-    bad = bad | painting::differ(&t, &s.owner);
-    bad == 0
 }
 
 // ---- the running record
@@ -194,9 +142,9 @@ fn any_output(e: usize, entries: [Entry; 8], n: usize) -> bool
     ok
 }
 
-fn out_right(owner: &[u8; 1024], pages: usize, a: usize, n: usize) -> bool
+fn out_right(owner: &[u8; Geometry::MOST_PAGES], pages: usize, a: usize, n: usize) -> bool
     requires { ⌜ pages ≤ mostPages ⌝ }
-    ensures { λ r. ⌜ r ≡ pick (eqb n 0) (eqb a 0) (isRange pages a n && (ltb (pageOf a) pages && eqb (getD (now (owner .entry)) (pageOf a) 0) 0)) ⌝ }
+    ensures { λ r. ⌜ r ≡ outTest (now (owner .entry)) pages a n ⌝ }
 {
     if n == 0 {
         return a == 0;
@@ -204,50 +152,75 @@ fn out_right(owner: &[u8; 1024], pages: usize, a: usize, n: usize) -> bool
     if !Geometry::is_range(pages, a, n) {
         return false;
     }
-    let p = a / 4096;
+    let p = a / Geometry::PAGE;
     (p < pages) & (owner[p] == 0)
 }
 
-fn secure_right(s: State, k: usize) -> bool
-    requires { ⌜ (s .pages ≤ mostPages) × (all-below slotCount (slotRightAt s) ≡ true) ⌝ }
-    ensures { λ r. ⌜ r ≡ runningRight (faceOf s) k (s .running) ⌝ }
+fn secure_right(
+    k: usize,
+    x: Running,
+    card: Card,
+    owner: &[u8; Geometry::MOST_PAGES],
+    pages: usize,
+) -> bool
+    requires { ⌜ (pages ≤ mostPages) × (card .fields .e ≤ entryPlaces) ⌝ }
+    ensures { λ r. ⌜ r ≡ runningTest k x card (now (owner .entry)) pages ⌝ }
 {
-    if 8 <= k {
-        return false;
-    }
-    let x = s.slots[k];
-    let f = x.card.fields;
+    let f = card.fields;
     let entries = f.entries;
-    let run = s.running;
-    let some = any_output(f.e, entries, run.length);
-    let out = out_right(&s.owner, s.pages, run.out, run.length);
-    ((run.slot == k) & x.card.registered) & (some & out)
+    let some = any_output(f.e, entries, x.length);
+    let out = out_right(owner, pages, x.out, x.length);
+    ((x.slot == k) & ((k < Geometry::SLOTS) & card.registered)) & (some & out)
 }
 
-fn mode_right(s: State) -> bool
-    requires { ⌜ (s .pages ≤ mostPages) × (all-below slotCount (slotRightAt s) ≡ true) ⌝ }
-    ensures { λ r. ⌜ r ≡ modeRight (faceOf s) (s .mode) ⌝ }
+fn mode_right(
+    mode: Mode,
+    x: Running,
+    card: Card,
+    owner: &[u8; Geometry::MOST_PAGES],
+    pages: usize,
+) -> bool
+    requires { ⌜ (pages ≤ mostPages) × (card .fields .e ≤ entryPlaces) ⌝ }
+    ensures { λ r. ⌜ r ≡ modeTest mode x card (now (owner .entry)) pages ⌝ }
 {
-    let mode = s.mode;
     match mode {
-        Mode::Legacy => running_zero(s.running),
-        Mode::Secure(k) => secure_right(s, k),
+        Mode::Legacy => running_zero(x),
+        Mode::Secure(k) => secure_right(k, x, card, owner, pages),
     }
 }
 
-// ---- the whole
+// ---- the whole: `bad` stays zero while each slot's pages are its own
 pub fn state_right(s: State) -> bool
     ensures { λ r. ⌜ r ≡ stateRight s ⌝ }
 {
     if !sizes_right(s.pages, s.kept) {
         return false;
     }
-    if !slots_right(s) {
-        return false;
+    let top = s.pages - s.kept;
+    let mut t = [0u8; Geometry::MOST_PAGES];
+    painting::paint(&mut t, top, s.kept, 255);
+    let mut bad: u8 = 0;
+    let mut k: usize = 0;
+    while k < Geometry::SLOTS {
+        let x = s.slots[k];
+        if !slot_right(x, top) {
+            return false;
+        }
+        let f = x.card.fields;
+        let runs = f.runs;
+        let v = (k + 1) as u8;
+        bad = bad | painting::runs_off(&s.owner, f.r, runs, v);
+        painting::paint_runs(&mut t, f.r, runs, v);
+        k += 1;
     }
-    let pages = pages_right(s);
-    let mode = mode_right(s);
-    pages & mode
+    bad = bad | painting::differ(&t, &s.owner);
+    let running = s.running;
+    let j = running.slot % Geometry::SLOTS;
+    let y = s.slots[j];
+    let card = y.card;
+    let mode = s.mode;
+    let right = mode_right(mode, running, card, &s.owner, s.pages);
+    (bad == 0) & right
 }
 
 pub fn well_formed(s: State, length: usize) -> bool

@@ -1,10 +1,11 @@
-use Rattle.lists.proofs.Any.{any-none, any-step, any-end}
-use Rattle.fields.specs.Rules.{codeHoldsAt, inCode}
-use Rattle.lists.specs.Below.{any-below}
-use Rattle.fields.specs.Fields.{fieldsOf}
+use Prim.Native.Nat.{_≤_, _-_}
+use mathlib.Core.Path.{_≡_, sym, _∙_}
+use mathlib.Core.Bool.{true, false}
 use mathlib.Core.List.{[]}
-use mathlib.Core.Path.{_≡_, refl, sym, _∙_, ap}
-use Prim.Native.Nat.{_≤_, _-_, _+_, _*_}
+use Rattle.lists.specs.Below.{any-below}
+use Rattle.lists.proofs.Any.{any-none, any-more, any-hit, any-end}
+use Rattle.fields.specs.Fields.{fieldsOf}
+use Rattle.fields.specs.Rules.{codeHoldsAt, inCode}
 use borrow.Author.Needs.{needs}
 use native.Mathlib.Omega.{arith}
 use Rattle.keeps.proofs.in_code.Statement.{statement}
@@ -14,10 +15,10 @@ use Rattle.keeps.proofs.in_code.Lts as lts
 use Rattle.keeps.proofs.code_holds.Reads as code-holds-reads
 
 abbrev Inv-loop : tie.InvT-loop
-Inv-loop r page runs ok₀ i₀ ok i = (i ≤ r) × (ok ≡ any-below i (codeHoldsAt (fieldsOf r 0 runs []) page))
+Inv-loop r page runs i₀ i = (i ≤ r) × (false ≡ any-below i (codeHoldsAt (fieldsOf r 0 runs []) page))
 
 abbrev μ-loop : tie.MeasureT-loop
-μ-loop r page runs ok₀ i₀ ok i = r - i
+μ-loop r page runs i₀ i = r - i
 
 loop-holds : tie.Need-loop-holds Inv-loop μ-loop
 loop-holds c = (omega arith, any-none _)
@@ -31,6 +32,12 @@ array-copy-out-x c = omega arith
 code-holds-requires : tie.Need-code-holds-requires Inv-loop μ-loop
 code-holds-requires c κs = search needs
 
+returns : tie.Need-returns Inv-loop μ-loop
+unfolding inCode
+returns c =
+    let l = c .before .before .before .before in
+    any-hit _ _ (l .loop .i) (omega arith) (sym (c .before .code-holds .ensures) ∙ c .if1 .taken)
+
 add-i : tie.Need-add-i Inv-loop μ-loop
 add-i c = omega arith
 
@@ -38,11 +45,13 @@ loop-less : tie.Need-loop-less Inv-loop μ-loop
 loop-less c = omega arith
 
 loop-again : tie.Need-loop-again Inv-loop μ-loop
-loop-again c = let l = c .before .before .before in (omega arith, any-step _ (l .loop .i) _ _ (l .loop .inv .1) (c .code-holds .ensures))
+loop-again c =
+    let l = c .before .before .before .before in
+    (omega arith, any-more _ (l .loop .i) (l .loop .inv .1) (sym (c .before .code-holds .ensures) ∙ c .if1 .left))
 
-returns : tie.Need-returns Inv-loop μ-loop
+returns-2 : tie.Need-returns-2 Inv-loop μ-loop
 unfolding inCode
-returns c = any-end _ _ _ _ (c .before .loop .inv .0) (c .loop-test .left) (c .before .loop .inv .1)
+returns-2 c = any-end _ _ _ _ (c .before .loop .inv .0) (c .loop-test .left) (c .before .loop .inv .1)
 
 pub in-code-spec : {M : Type 1} → statement M
 in-code-spec =
@@ -54,7 +63,8 @@ in-code-spec =
     mul-x
     array-copy-out-x
     code-holds-requires
+    returns
     add-i
     loop-less
     loop-again
-    returns)
+    returns-2)

@@ -12,8 +12,7 @@ use Rattle.keeps.proofs.keeps.Tie as tie
 use Rattle.keeps.proofs.keeps.Reads as reads
 use Rattle.keeps.proofs.keeps.Lts as lts
 use Rattle.keeps.proofs.counts_right.Reads as counts-right-reads
-use Rattle.keeps.proofs.entries_each.Reads as entries-each-reads
-use Rattle.keeps.proofs.entries_rise.Reads as entries-rise-reads
+use Rattle.keeps.proofs.entries_right.Reads as entries-right-reads
 use Rattle.keeps.proofs.entries_unused.Reads as entries-unused-reads
 use Rattle.keeps.proofs.runs_right.Reads as runs-right-reads
 use Rattle.keeps.proofs.runs_unused.Reads as runs-unused-reads
@@ -32,23 +31,20 @@ unfolding keepsRules countsRight
 returns c = let t = sym (c .before .counts-right .ensures) ∙ not-true _ (c .if1 .taken) in rw t
 
 runs-right-requires : tie.Need-runs-right-requires
-runs-right-requires c κs = let n = bounds c in (omega (arith, n), omega (arith, n))
+runs-right-requires c κs = let n = bounds c in omega (arith, n)
 
-entries-each-requires : tie.Need-entries-each-requires
-entries-each-requires c κs = let n = bounds (c .before) in (omega (arith, n), omega (arith, n))
-
-entries-rise-requires : tie.Need-entries-rise-requires
-entries-rise-requires c κs = let n = bounds (c .before .before) in (omega (arith, n), omega (arith, n))
+entries-right-requires : tie.Need-entries-right-requires
+entries-right-requires c κs = let n = bounds (c .before) in (omega (arith, n), omega (arith, n))
 
 runs-unused-requires : tie.Need-runs-unused-requires
-runs-unused-requires c κs = let n = bounds (c .before .before .before) in omega (arith, n)
+runs-unused-requires c κs = let n = bounds (c .before .before) in omega (arith, n)
 
 entries-unused-requires : tie.Need-entries-unused-requires
-entries-unused-requires c κs = let n = bounds (c .before .before .before .before) in omega (arith, n)
+entries-unused-requires c κs = let n = bounds (c .before .before .before) in omega (arith, n)
 
 returns-2 : tie.Need-returns-2
 unfolding keepsRules countsRight runsRight runsRise pagesFew someCode oneParam inCode entriesRight entriesRise unusedZero
-returns-2 c = let t = right (c .before .before .before .before .before) in
+returns-2 c = let t = right (c .before .before .before .before) in
     rw t cc
 
 pub keeps-spec : {M : Type 1} → statement M
@@ -58,8 +54,7 @@ keeps-spec =
     counts-right-requires
     returns
     runs-right-requires
-    entries-each-requires
-    entries-rise-requires
+    entries-right-requires
     runs-unused-requires
     entries-unused-requires
     returns-2)

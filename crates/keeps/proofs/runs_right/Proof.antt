@@ -1,41 +1,100 @@
-use Rattle.fields.specs.Rules.{runsRight, runsRise, pagesFew, someCode, oneParam}
+use Prim.Native.Nat.{_≤_, _-_, _*_}
+use mathlib.Core.List.{[]}
+use Rattle.fields.specs.Fields.{fieldsOf}
+use Rattle.keeps.proofs.Passes.{Runs, runs-none, runs-step, runs-end}
 use borrow.Author.Needs.{needs}
+use native.Mathlib.Omega.{arith}
 use Rattle.keeps.proofs.runs_right.Statement.{statement}
 use Rattle.keeps.proofs.runs_right.Tie as tie
 use Rattle.keeps.proofs.runs_right.Reads as reads
 use Rattle.keeps.proofs.runs_right.Lts as lts
-use Rattle.keeps.proofs.one_param.Reads as one-param-reads
-use Rattle.keeps.proofs.pages_few.Reads as pages-few-reads
-use Rattle.keeps.proofs.runs_each.Reads as runs-each-reads
-use Rattle.keeps.proofs.runs_rise.Reads as runs-rise-reads
-use Rattle.keeps.proofs.some_code.Reads as some-code-reads
+use Rattle.keeps.proofs.if_param.Reads as if-param-reads
+use Rattle.keeps.proofs.run_end.Reads as run-end-reads
+use Rattle.keeps.proofs.run_right.Reads as run-right-reads
 
-runs-each-requires : tie.Need-runs-each-requires
-runs-each-requires c κs = search needs
+abbrev Inv-loop : tie.InvT-loop
+Inv-loop r runs each₀ rise₀ at₀ held₀ code₀ params₀ pages₀ i₀ each rise at held code params pages i =
+    (i ≤ r) × (((held ≤ 65535 * i) × ((params ≤ i) × (pages ≤ 65535 * i))) × Runs (fieldsOf r 0 runs []) i each rise at held code params pages)
 
-runs-rise-requires : tie.Need-runs-rise-requires
-runs-rise-requires c κs = search needs
+abbrev μ-loop : tie.MeasureT-loop
+μ-loop r runs each₀ rise₀ at₀ held₀ code₀ params₀ pages₀ i₀ each rise at held code params pages i =
+    r - i
 
-pages-few-requires : tie.Need-pages-few-requires
-pages-few-requires c κs = search needs
+loop-holds : tie.Need-loop-holds Inv-loop μ-loop
+loop-holds c = (omega arith, ((omega arith, (omega arith, omega arith)), runs-none _))
 
-some-code-requires : tie.Need-some-code-requires
-some-code-requires c κs = search needs
+mul-x : tie.Need-mul-x Inv-loop μ-loop
+mul-x c = omega arith
 
-one-param-requires : tie.Need-one-param-requires
-one-param-requires c κs = search needs
+array-copy-out-x : tie.Need-array-copy-out-x Inv-loop μ-loop
+array-copy-out-x c = omega arith
 
-returns : tie.Need-returns
-unfolding runsRight
-returns c = cc
+run-right-requires : tie.Need-run-right-requires Inv-loop μ-loop
+run-right-requires c κs = search needs
+
+cast-rise : tie.Need-cast-rise Inv-loop μ-loop
+cast-rise c = omega arith
+
+run-end-requires : tie.Need-run-end-requires Inv-loop μ-loop
+run-end-requires c κs = search needs
+
+cast-held : tie.Need-cast-held Inv-loop μ-loop
+cast-held c = omega arith
+
+add-held : tie.Need-add-held Inv-loop μ-loop
+add-held c = omega arith
+
+if-param-requires : tie.Need-if-param-requires Inv-loop μ-loop
+if-param-requires c κs = search needs
+
+add-params : tie.Need-add-params Inv-loop μ-loop
+add-params c = omega arith
+
+cast-if-param : tie.Need-cast-if-param Inv-loop μ-loop
+cast-if-param c = omega arith
+
+if-param-requires-2 : tie.Need-if-param-requires-2 Inv-loop μ-loop
+if-param-requires-2 c κs = omega arith
+
+add-pages : tie.Need-add-pages Inv-loop μ-loop
+add-pages c = omega arith
+
+add-i : tie.Need-add-i Inv-loop μ-loop
+add-i c = omega arith
+
+loop-less : tie.Need-loop-less Inv-loop μ-loop
+loop-less c = omega arith
+
+loop-again : tie.Need-loop-again Inv-loop μ-loop
+loop-again c =
+    let l = c .before .before .before .before .before .before .before .before .before .before in (
+      omega arith,
+      ((omega arith, (omega arith, omega arith)), runs-step _ (l .loop .i) _ _ _ _ _ _ _ _ _ _ _ (l .loop .inv .1 .1) (c .before .before .before .before .before .before .before .run-right .ensures) (c .before .before .before .before .before .run-end .ensures .0) (c .before .before .if-param .ensures .0) (c .if-param2 .ensures .0)),
+    )
+
+returns : tie.Need-returns Inv-loop μ-loop
+returns c = let l = c .before in runs-end _ (l .loop .i) _ _ _ _ _ _ _ (l .loop .inv .0) (c .loop-test .left) (l .loop .inv .1 .1)
 
 pub runs-right-spec : {M : Type 1} → statement M
 runs-right-spec =
     tie.close
     (tie.spec
-    runs-each-requires
-    runs-rise-requires
-    pages-few-requires
-    some-code-requires
-    one-param-requires
+    Inv-loop
+    μ-loop
+    loop-holds
+    mul-x
+    array-copy-out-x
+    run-right-requires
+    cast-rise
+    run-end-requires
+    cast-held
+    add-held
+    if-param-requires
+    add-params
+    cast-if-param
+    if-param-requires-2
+    add-pages
+    add-i
+    loop-less
+    loop-again
     returns)

@@ -1,11 +1,14 @@
 use mathlib.Core.Path.{_≡_, sym, ap, _∙_}
 use Rattle.state.specs.declared.Mode.{Mode}
 use Rattle.state.specs.declared.Mode.the-variants.{Secure}
-use Rattle.state.specs.Face.{faceOf}
-use Rattle.wellformed.specs.WellFormed.{modeRight}
+use Rattle.wellformed.specs.Tests.{modeTest}
 use borrow.Author.Needs.{needs}
 use Rattle.wellformed.proofs.mode_right.Statement.{statement}
 use Rattle.wellformed.proofs.mode_right.Tie as tie
+use Rattle.wellformed.proofs.mode_right.Reads as reads
+use Rattle.wellformed.proofs.mode_right.Lts as lts
+use Rattle.wellformed.proofs.running_zero.Reads as running-zero-reads
+use Rattle.wellformed.proofs.secure_right.Reads as secure-right-reads
 
 enum-told : tie.Need-enum-told
 enum-told c = search needs
@@ -24,10 +27,17 @@ returns c = cc
 
 returns-2 : tie.Need-returns-2
 returns-2 c =
-    let s = c .before .before .before .before .args .s in
-    let m : s .mode ≡ Secure (c .before .before .mode .given .0 .0) = c .before .before .mode .given .1 in
-    c .secure-right .ensures ∙ ap (λ (x : Mode). modeRight (faceOf s) x) (sym m)
+    let a = c .before .before .before .before .args in
+    let m : a .mode ≡ Secure (c .before .before .mode .given .0 .0) = c .before .before .mode .given .1 in
+    c .secure-right .ensures ∙ ap (λ (y : Mode). modeTest y (a .x) (a .card) (a .owner .now) (a .pages)) (sym m)
 
 pub mode-right-spec : {M : Type 1} → statement M
 mode-right-spec =
-    tie.close (tie.spec enum-told running-zero-requires enum-known-mode secure-right-requires returns returns-2)
+    tie.close
+    (tie.spec
+    enum-told
+    running-zero-requires
+    enum-known-mode
+    secure-right-requires
+    returns
+    returns-2)

@@ -1,13 +1,20 @@
-use mathlib.Core.Path.{_≡_, sym, _∙_}
+use Prim.Native.Nat.{_-_}
+use mathlib.Core.Path.{_≡_, sym, ap, _∙_}
 use mathlib.Core.Bool.{true, false}
+use lib.Dec.{leb}
 use borrow.Author.Tests.{not-true, not-false}
 use Rattle.fields.specs.Fields.{fieldsOf}
 use Rattle.fields.specs.Rules.{keepsRules}
-use Rattle.fields.specs.Pages.{pagesUnder}
-use Rattle.fields.proofs.Facts.{kept}
+use Rattle.fields.proofs.Facts.{Counts, kept}
+use Rattle.wellformed.proofs.Slots.{under-last}
+use native.Mathlib.Omega.{arith}
 use borrow.Author.Needs.{needs}
 use Rattle.wellformed.proofs.used_right.Statement.{statement}
 use Rattle.wellformed.proofs.used_right.Tie as tie
+use Rattle.wellformed.proofs.used_right.Reads as reads
+use Rattle.wellformed.proofs.used_right.Lts as lts
+use Rattle.keeps.proofs.keeps.Reads as keeps-reads
+use Rattle.keeps.proofs.run_end.Reads as run-end-reads
 
 keeps-requires : tie.Need-keeps-requires
 keeps-requires c κs = search needs
@@ -15,21 +22,35 @@ keeps-requires c κs = search needs
 returns : tie.Need-returns
 returns c =
     let a = c .before .before .args in
-    let t : keepsRules (fieldsOf (a .r) (a .e) (a .runs) (a .entries)) ≡ false = sym (c .before .keeps .ensures) ∙ not-true _ (c .if1 .taken) in
+    let t : keepsRules (fieldsOf (a .r) (a .e) (a .t3) (a .entries)) ≡ false = sym (c .before .keeps .ensures) ∙ not-true _ (c .if1 .taken) in
     rw t
 
-pages-under-requires : tie.Need-pages-under-requires
-pages-under-requires c κs =
-    let a = c .before .before .args in
-    kept (fieldsOf (a .r) (a .e) (a .runs) (a .entries)) (sym (c .before .keeps .ensures) ∙ not-false _ (c .if1 .left)) .bounds .few-runs
+right : (c : tie.Else1) → keepsRules (fieldsOf (c .before .before .args .r) (c .before .before .args .e) (c .before .before .args .t3) (c .before .before .args .entries)) ≡ true
+right c = sym (c .before .keeps .ensures) ∙ not-false _ (c .if1 .left)
+
+bounds : (c : tie.Else1) → Counts (fieldsOf (c .before .before .args .r) (c .before .before .args .e) (c .before .before .args .t3) (c .before .before .args .entries))
+bounds c = kept _ (right c) .bounds
+
+sub-x : tie.Need-sub-x
+sub-x c = omega (arith, bounds c .some-runs)
+
+mul-x : tie.Need-mul-x
+mul-x c = omega (arith, bounds c .few-runs)
+
+array-copy-out-x : tie.Need-array-copy-out-x
+array-copy-out-x c = omega (arith, bounds c .some-runs, bounds c .few-runs)
+
+run-end-requires : tie.Need-run-end-requires
+run-end-requires c κs = search needs
 
 returns-2 : tie.Need-returns-2
-unfolding pagesUnder
 returns-2 c =
-    let b = c .before in
-    let a = b .before .before .args in
-    let t : keepsRules (fieldsOf (a .r) (a .e) (a .runs) (a .entries)) ≡ true = sym (b .before .keeps .ensures) ∙ not-false _ (b .if1 .left) in
-    rw t (c .pages-under .ensures)
+    let e = c .before .before in
+    let a = e .before .before .args in
+    let f = fieldsOf (a .r) (a .e) (a .t3) (a .entries) in
+    rw (right e, c .run-end .ensures .0) (under-last f (a .top) (right e))
 
 pub used-right-spec : {M : Type 1} → statement M
-used-right-spec = tie.close (tie.spec keeps-requires returns pages-under-requires returns-2)
+used-right-spec =
+    tie.close
+    (tie.spec keeps-requires returns sub-x mul-x array-copy-out-x run-end-requires returns-2)
