@@ -16,7 +16,7 @@ use Rattle.lists.proofs.Logic.{and-l, and-r, or-cases, decided}
 use Rattle.lists.proofs.Any.{any-find, any-hit}
 use Rattle.lists.proofs.First.{first-at}
 use Rattle.lists.proofs.Parts.{part-none}
-use Rattle.geometry.specs.Geometry.{slotCount, halfPage, isRange, pageOf, startOf}
+use Rattle.geometry.specs.Geometry.{slotCount, halfPage, isRange, pageOf, startOf, mostPages}
 use Rattle.fields.specs.declared.Entry.{Entry}
 use Rattle.fields.specs.declared.Fields.{Fields}
 use Rattle.fields.specs.Rules.{keepsRules}
@@ -42,12 +42,17 @@ use Rattle.events.specs.declared.Answer.the-variants as answer
 use Rattle.rules.specs.Plan.{refuse}
 use Rattle.rules.specs.Tests.{inRange, unlooked, keptAs, underMark, entryOf, callableAt, slotFor, withMode}
 use Rattle.rules.specs.Decide.{callRule, callEntry, entryFor, entered, returnRule, outFrom}
-use Rattle.touch.specs.Carried.{Steps}
 use Rattle.touch.proofs.Plans.{pass, stop}
 use Rattle.touch.proofs.Ranges.{range-fits}
-use Rattle.touch.proofs.Ready.{right, kept-in, runs-in, ready, long}
-use Rattle.release.specs.Release.{inMode}
+use Rattle.touch.proofs.Ready.{right, few-pages, kept-in, runs-in, ready, long}
+use Rattle.change.specs.declared.Change.{Change}
+use Rattle.change.specs.declared.Turn.the-variants.{Enters, Leaves}
+use Rattle.change.specs.Turns.{inMode, turnOf, Settles}
 use Rattle.call.proofs.Entries.{entry-at}
+
+pub param-alone : (x : Fields) → paramOf (fieldsOf (x .r) 0 (x .runs) []) ≡ paramOf x
+unfolding paramOf
+param-alone x = refl
 
 module _ (s : State) (h : stateRight s ≡ true) where
   -- entries in use have places
@@ -74,7 +79,7 @@ module _ (s : State) (h : stateRight s ≡ true) where
         let w = param x (kept x rules-in .runs-of) in
         sym (any-hit (isParamAt x) (x .r) (w .at) (w .below) (w .is))
 
-    pub has-param-in : (getD (s .slots) k noSlot .card .fields .r ≤ 4) × (any-below (getD (s .slots) k noSlot .card .fields .r) (isParamAt (fieldsOf (getD (s .slots) k noSlot .card .fields .r) 0 (getD (s .slots) k noSlot .card .fields .runs) [])) ≡ true)
+    has-param-in : (getD (s .slots) k noSlot .card .fields .r ≤ 4) × (any-below (getD (s .slots) k noSlot .card .fields .r) (isParamAt (fieldsOf (getD (s .slots) k noSlot .card .fields .r) 0 (getD (s .slots) k noSlot .card .fields .runs) [])) ≡ true)
     has-param-in =
         subst (λ (x : Card). (x .fields .r ≤ 4) × (any-below (x .fields .r) (isParamAt (fieldsOf (x .fields .r) 0 (x .fields .runs) [])) ≡ true)) (card-at (s .slots) k)
         (kept-in s h k l g .bounds .few-runs, has-param)
@@ -83,6 +88,14 @@ module _ (s : State) (h : stateRight s ≡ true) where
     param-in =
         let x = cardAt (faceOf s) k .fields in
         omega (arith, held-under (faceOf s) (right s h) (paramOf x) k l (param-page x rules-in))
+
+    -- as the code finds the slot
+    pub param-same : paramOf (fieldsOf (getD (s .slots) k noSlot .card .fields .r) 0 (getD (s .slots) k noSlot .card .fields .runs) []) ≡ paramOf (cardAt (faceOf s) k .fields)
+    param-same = param-alone _ ∙ sym (ap (λ (x : Card). paramOf (x .fields)) (card-at (s .slots) k))
+
+    pub param-ready : (getD (s .slots) k noSlot .card .fields .r ≤ 4) × ((any-below (getD (s .slots) k noSlot .card .fields .r) (isParamAt (fieldsOf (getD (s .slots) k noSlot .card .fields .r) 0 (getD (s .slots) k noSlot .card .fields .runs) [])) ≡ true)
+        × (paramOf (fieldsOf (getD (s .slots) k noSlot .card .fields .r) 0 (getD (s .slots) k noSlot .card .fields .runs) []) < mostPages))
+    param-ready = (has-param-in .0, (has-param-in .1, omega (arith, param-same, param-in, few-pages s h)))
 
   -- the running call's output is an entry's
   pub output-small : (k : ℕ) → s .mode ≡ Secure k → s .running .length ≤ halfPage
@@ -103,10 +116,6 @@ out-fits s n k w e =
     go : Dec (s .running .length ≡ 0) → outRight (faceOf s) (s .running .out) (s .running .length) ≡ true → s .running .out + s .running .length ≤ n
     go (yes q) t = omega (arith, out-none (faceOf s) (s .running .out) (s .running .length) t q)
     go (no q) t = omega (arith, range-fits (s .pages) (s .running .out) (s .running .length) (out-range (faceOf s) (s .running .out) (s .running .length) t q), long s n w)
-
-pub param-alone : (x : Fields) → paramOf (fieldsOf (x .r) 0 (x .runs) []) ≡ paramOf x
-unfolding paramOf
-param-alone x = refl
 
 -- a range that is looked at lies in memory; one that is not has length 0
 pub kept-fits : (p a n size : ℕ) → size ≡ startOf p → unlooked n (isRange p a n) ≡ true → keptAs n a + n ≤ size
@@ -182,19 +191,24 @@ module _ (f : Face) (k : ℕ) (x : Entry) (i o : ℕ) where
   enter-on e g p q = pass in-right 4 f _ e ∙ pass out-right 4 f _ g ∙ pass in-open 5 f _ p ∙ pass out-open 5 f _ q
 
 -- entered, as the code leaves things
-pub entered-steps : (s : State) → length (s .slots) ≡ slotCount → (k : ℕ) (x : Entry) (i o : ℕ) (payload m m′ : List ℕ) (t : State)
-    → t ≡ inMode s (Secure k) (record { slot = k; out = keptAs (x .output) o; length = x .output })
+pub entered-settles : (s : State) → length (s .slots) ≡ slotCount → (k : ℕ) (x : Entry) (i o : ℕ) (payload m m′ : List ℕ) (y : Running) (c : Change)
+    → y ≡ record { slot = k; out = keptAs (x .output) o; length = x .output }
+    → c ≡ turnOf (answer.Entered k) (Enters y)
     → m′ ≡ sets m (startOf (paramOf (cardAt (faceOf s) k .fields))) (part m i (x .input))
-    → Steps (entered (faceOf s) k x i o) payload (pcrsOf s) m (record { answer = answer.Entered k; state = t }) m′
+    → Settles (entered (faceOf s) k x i o) payload s m c m′
 unfolding entered
-entered-steps s e k x i o payload m m′ t p q = record { answer = refl; state = p ∙ mode-state s e (Secure k) _; memory = q }
+entered-settles s e k x i o payload m m′ y c p q r =
+    subst (λ (z : Change). Settles (entered (faceOf s) k x i o) payload s m z m′) (sym (q ∙ ap (λ (z : Running). turnOf (answer.Entered k) (Enters z)) p))
+    (record { steps = record { answer = refl; state = mode-state s e (Secure k) _; memory = r }; fits = tt })
 
-pub returned-steps : (s : State) → length (s .slots) ≡ slotCount → (k : ℕ) (payload m m′ : List ℕ) (t : State)
-    → t ≡ inMode s Legacy zeroRunning
+pub returned-settles : (s : State) → length (s .slots) ≡ slotCount → (k : ℕ) (payload m m′ : List ℕ) (c : Change)
+    → c ≡ turnOf (answer.Left (s .running .length)) (Leaves zeroRunning)
     → m′ ≡ sets m (s .running .out) (part m (outFrom (faceOf s) k) (s .running .length))
-    → Steps (returnRule (faceOf s) k) payload (pcrsOf s) m (record { answer = answer.Left (s .running .length); state = t }) m′
+    → Settles (returnRule (faceOf s) k) payload s m c m′
 unfolding returnRule
-returned-steps s e k payload m m′ t p q = record { answer = refl; state = p ∙ mode-state s e Legacy zeroRunning; memory = q }
+returned-settles s e k payload m m′ c p q =
+    subst (λ (z : Change). Settles (returnRule (faceOf s) k) payload s m z m′) (sym p)
+    (record { steps = record { answer = refl; state = mode-state s e Legacy zeroRunning; memory = q }; fits = tt })
 
 -- ---- what a call finds
 

@@ -66,15 +66,11 @@ pub fn param_of(n: usize, runs: [Run; 4]) -> usize
     0
 }
 
-// Where the param page of registered slot k begins.
-pub fn param_start(s: State, k: usize) -> usize
-    requires { ⌜ (stateRight s ≡ true) × ((k < slotCount) × (cardAt (faceOf s) k .registered ≡ true)) ⌝ }
-    ensures { λ r. ⌜ (r ≡ startOf (paramOf (cardAt (faceOf s) k .fields))) × (paramOf (cardAt (faceOf s) k .fields) < s .pages) ⌝ }
+// Where the param page begins.
+pub fn param_start(n: usize, runs: [Run; 4]) -> usize
+    requires { ⌜ (n ≤ runPlaces) × ((any-below n (isParamAt (fieldsOf n 0 runs [])) ≡ true) × (paramOf (fieldsOf n 0 runs []) < mostPages)) ⌝ }
+    ensures { λ r. ⌜ r ≡ startOf (paramOf (fieldsOf n 0 runs [])) ⌝ }
 {
-    let slot = s.slots[k];
-    let fields = slot.card.fields;
-    let n = fields.r;
-    let runs = fields.runs;
     let page = param_of(n, runs);
     page * Geometry::PAGE
 }

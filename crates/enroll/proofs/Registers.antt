@@ -29,10 +29,11 @@ use Rattle.rules.specs.Plan.{refuse}
 use Rattle.rules.specs.Tests.{given, withCard, allOpen, freeSlot}
 use Rattle.rules.specs.Decide.{registerRule, registered}
 use Rattle.rules.specs.Act.{zeroPcrs, measured}
-use Rattle.touch.specs.Carried.{Steps}
 use Rattle.touch.proofs.Plans.{pass, stop}
 use Rattle.release.specs.Release.{RunsIn}
-use Rattle.enroll.specs.Enrolled.{freshSlot, enrolledState}
+use Rattle.painting.specs.Painting.{RunsFit}
+use Rattle.change.specs.declared.Change.{Change}
+use Rattle.change.specs.Turns.{freshSlot, enrolledState, enrollsBy, Settles}
 use Rattle.enroll.proofs.Opened.{open-in}
 
 -- ---- what is read and not refused keeps the rules
@@ -82,11 +83,13 @@ measured-same : (d : Digest) (content : List ℕ) → d .bytes ≡ sha1 content 
 unfolding extendedPcrs measured
 measured-same d content e = ap (λ (b : List ℕ). set zeroPcrs 0 (record { bytes = sha1 (zeroPcr .bytes ++ b) })) e
 
-pub registered-steps : (s : State) → length (s .slots) ≡ slotCount → (k : ℕ) → k < slotCount → (mark : ℕ) (x : Fields) (payload m : List ℕ) (d : Digest) (t : State)
-    → d .bytes ≡ sha1 (gather pageSize m (pagesOf x)) → t ≡ enrolledState s k mark x d
-    → Steps (registered (faceOf s) k mark x) payload (pcrsOf s) m (record { answer = answer.Slot k; state = t }) m
+pub registered-settles : (s : State) → length (s .slots) ≡ slotCount → (k : ℕ) → k < slotCount → (mark : ℕ) (x : Fields) → RunsFit (x .r) (x .runs) → (payload m : List ℕ) (d : Digest) (c : Change)
+    → d .bytes ≡ sha1 (gather pageSize m (pagesOf x)) → c ≡ enrollsBy k mark x d
+    → Settles (registered (faceOf s) k mark x) payload s m c m
 unfolding registered withCard stateOf
-registered-steps s e k l mark x payload m d t h g = record { answer = refl; state = g ∙ whole; memory = refl }
+registered-settles s e k l mark x b payload m d c h g =
+    subst (λ (z : Change). Settles (registered (faceOf s) k mark x) payload s m z m) (sym g)
+    (record { steps = record { answer = refl; state = whole; memory = refl }; fits = (l, b) })
   where
     content : List ℕ
     content = gather pageSize m (pagesOf x)

@@ -1,1 +1,1 @@
-pub mod Enrolled
+-- no definitions of its own

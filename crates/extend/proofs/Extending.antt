@@ -1,6 +1,6 @@
 -- The ends of extend's rule, and that the state after it is the rule's.
 use Prim.Native.Nat.{ℕ, _<_}
-use mathlib.Core.Path.{_≡_, refl, sym, ap, _∙_}
+use mathlib.Core.Path.{_≡_, refl, sym, ap, subst, _∙_}
 use mathlib.Core.Bool.{true, false}
 use mathlib.Core.List.{List, [], map, _++_}
 use lib.ListN.{length, getD, set}
@@ -25,10 +25,10 @@ use Rattle.rules.specs.Plan.{nothing, keep, extend, refuse, still}
 use Rattle.rules.specs.Tests.{keptAs}
 use Rattle.rules.specs.Decide.{sourceRight, sourceReached, extendRule}
 use Rattle.rules.specs.Act.{extended}
-use Rattle.touch.specs.Carried.{Steps}
 use Rattle.touch.proofs.Plans.{pass, stop}
 use Rattle.call.proofs.Calls.{kept-fits, kept-part}
-use Rattle.extend.specs.Extends.{withPcr}
+use Rattle.change.specs.declared.Change.{Change}
+use Rattle.change.specs.Turns.{withPcr, extendsBy, Settles}
 
 module _ (f : Face) (k size i : ℕ) (source : Source) (a n : ℕ) where
   pub extend-10 : ltb i pcrCount ≡ false → extendRule f k size i source a n ≡ refuse 10 f
@@ -72,11 +72,13 @@ pcrs-set s e k l ps =
     ap (λ (cs : List Card). table (slotOf cs (set (map pcrsIn (s .slots)) k ps)) slotCount) (sym q)
     ∙ state-set s k (record { card = getD (s .slots) k noSlot .card; pcrs = ps }) e l
 
-pub extended-steps : (s : State) → length (s .slots) ≡ slotCount → (k : ℕ) → k < slotCount → (i : ℕ) (source : Source) (a n : ℕ) (payload m : List ℕ) (d : Digest) (t : State)
-    → d .bytes ≡ sha1 (chosenOf payload m source a n) → t ≡ withPcr s k i d
-    → Steps (still (faceOf s) nothing keep (extend k i source a n) answer.Done) payload (pcrsOf s) m (record { answer = answer.Done; state = t }) m
+pub extended-settles : (s : State) → length (s .slots) ≡ slotCount → (k : ℕ) → k < slotCount → (i : ℕ) → i < pcrCount → (source : Source) (a n : ℕ) (payload m : List ℕ) (d : Digest) (c : Change)
+    → d .bytes ≡ sha1 (chosenOf payload m source a n) → c ≡ extendsBy k i d
+    → Settles (still (faceOf s) nothing keep (extend k i source a n) answer.Done) payload s m c m
 unfolding stateOf extendedSlot
-extended-steps s e k l i source a n payload m d t h g = record { answer = refl; state = g ∙ whole; memory = refl }
+extended-settles s e k l i b source a n payload m d c h g =
+    subst (λ (z : Change). Settles (still (faceOf s) nothing keep (extend k i source a n) answer.Done) payload s m z m) (sym g)
+    (record { steps = record { answer = refl; state = whole; memory = refl }; fits = (l, b) })
   where
     content : List ℕ
     content = chosenOf payload m source a n

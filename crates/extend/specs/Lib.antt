@@ -1,1 +1,1 @@
-pub mod Extends
+-- no definitions of its own

@@ -1,2 +1,3 @@
 pub mod Rest
 pub mod Outs
+pub mod Ends

@@ -1,5 +1,6 @@
 -- Check 2, as the code asks it, and the outcome of a step as the code gives it.
 use Prim.Native.Nat.{ℕ}
+use mathlib.Core.Path.{_≡_}
 use mathlib.Core.Bool.{Bool, true, false, not}
 use mathlib.Core.List.{List}
 use Rattle.state.specs.declared.Mode.{Mode}
@@ -7,7 +8,10 @@ use Rattle.state.specs.declared.Mode.the-variants.{Legacy, Secure}
 use Rattle.events.specs.declared.Event.{Event}
 use Rattle.events.specs.declared.Event.the-variants.{Register, Unregister, Call, Return, Jump, Read, Write, DeviceRead, DeviceWrite, Extend, PcrRead}
 use Rattle.rules.specs.Act.{Out}
+use Rattle.state.specs.declared.State.{State}
 use Rattle.touch.specs.declared.Stepped.{Stepped}
+use Rattle.change.specs.declared.Change.{Change}
+use Rattle.change.specs.Turns.{settled, Fits}
 
 abbrev pub isLegacy : Mode → Bool
 isLegacy Legacy = true
@@ -35,3 +39,8 @@ allowed m (PcrRead i) = not (isLegacy m)
 -- answer and state, with memory and the buffer as they are left
 abbrev pub outOf : Stepped → List ℕ → List ℕ → Out
 outOf r m b = record { answer = r .answer; state = r .state; memory = m; buffer = b }
+
+-- what a decision comes to: the outcome, with the state after the change; and the change can be made
+pub record Comes (s : State) (c : Change) (m b : List ℕ) (o : Out) : Type 0 where
+  pub out : outOf (settled s c) m b ≡ o
+  pub fits : Fits s (c .turn) (c .fields)

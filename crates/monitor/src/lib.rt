@@ -1,4 +1,5 @@
 // The monitor: one event, the state by value, lent memory and a lent answer buffer; the answer and the next state.
+use change::Change;
 use events::Answer;
 use events::Event;
 use state::Mode;
@@ -71,9 +72,9 @@ fn allowed(mode: Mode, event: Event) -> bool
 }
 
 // The events in document 01's order, each by the function of its name.
-fn dispatch(event: Event, payload: &[u8], s: State, memory: &mut [u8], buffer: &mut [u8]) -> Stepped
+fn dispatch(event: Event, payload: &[u8], s: State, memory: &mut [u8], buffer: &mut [u8]) -> Change
     requires { ⌜ (wellFormed s (length (now memory)) ≡ true) × (Allowed.allowed (s .mode) event ≡ true) ⌝ }
-    ensures { λ r. ⌜ Allowed.outOf r (now (memory .exit)) (now (buffer .exit)) ≡ act (ruleIn (s .mode) (faceOf s) (length (now (buffer .entry))) (length (now (payload .entry))) (readManifest (now (payload .entry))) event) (now (payload .entry)) (now (buffer .entry)) (pcrsOf s) (now (memory .entry)) ⌝ }
+    ensures { λ r. ⌜ Allowed.Comes s r (now (memory .exit)) (now (buffer .exit)) (act (ruleIn (s .mode) (faceOf s) (length (now (buffer .entry))) (length (now (payload .entry))) (readManifest (now (payload .entry))) event) (now (payload .entry)) (now (buffer .entry)) (pcrsOf s) (now (memory .entry))) ⌝ }
 {
     let mode = s.mode;
     let k = slot_in(mode);
@@ -90,51 +91,64 @@ fn dispatch(event: Event, payload: &[u8], s: State, memory: &mut [u8], buffer: &
         } => call::call::call(s, memory, mark, address, input, output),
         Event::Return => call::return_::return_(s, memory, k),
         Event::Jump { address } => release::jump::jump(s, memory, address),
-        Event::Read { address, length } => Stepped {
-            answer: touch::read::read(s, memory, buffer, address, length),
-            state: s,
-        },
-        Event::Write { address } => Stepped {
-            answer: touch::write::write(s, memory, payload, address),
-            state: s,
-        },
-        Event::DeviceRead { address, length } => Stepped {
-            answer: touch::read::device_read(s, memory, buffer, address, length),
-            state: s,
-        },
-        Event::DeviceWrite { address } => Stepped {
-            answer: touch::write::device_write(s, memory, payload, address),
-            state: s,
-        },
+        Event::Read { address, length } => {
+            let answer = touch::read::read(s, memory, buffer, address, length);
+            change::kept(answer)
+        }
+        Event::Write { address } => {
+            let answer = touch::write::write(s, memory, payload, address);
+            change::kept(answer)
+        }
+        Event::DeviceRead { address, length } => {
+            let answer = touch::read::device_read(s, memory, buffer, address, length);
+            change::kept(answer)
+        }
+        Event::DeviceWrite { address } => {
+            let answer = touch::write::device_write(s, memory, payload, address);
+            change::kept(answer)
+        }
         Event::Extend {
             index,
             source,
             address,
             length,
         } => extend::extend::extend(s, payload, memory, k, index, source, address, length),
-        Event::PcrRead { index } => Stepped {
-            answer: touch::pcr_read::pcr_read(s, k, buffer, index),
-            state: s,
-        },
+        Event::PcrRead { index } => {
+            let answer = touch::pcr_read::pcr_read(s, k, buffer, index);
+            change::kept(answer)
+        }
     }
 }
 
-// "Check 1 comes first, then 2, then the order shown."
-pub fn step(event: Event, payload: &[u8], s: State, memory: &mut [u8], buffer: &mut [u8]) -> Stepped
-    ensures { λ r. ⌜ Allowed.outOf r (now (memory .exit)) (now (buffer .exit)) ≡ rules.step s (now (memory .entry)) event (now (payload .entry)) (now (buffer .entry)) ⌝ }
+// One event: its answer, what it does to memory and the buffer, and what becomes of the state. "Check 1 comes first, then 2, then the order shown."
+pub fn decided(
+    event: Event,
+    payload: &[u8],
+    s: State,
+    memory: &mut [u8],
+    buffer: &mut [u8],
+) -> Change
+    ensures { λ r. ⌜ Allowed.Comes s r (now (memory .exit)) (now (buffer .exit)) (rules.step s (now (memory .entry)) event (now (payload .entry)) (now (buffer .entry))) ⌝ }
 {
     if !wellformed::well_formed(s, memory.len()) {
-        return Stepped {
-            answer: Answer::Refused(1),
-            state: s,
-        };
+        return change::kept(Answer::Refused(1));
     }
     let mode = s.mode;
     if !allowed(mode, event) {
-        return Stepped {
-            answer: Answer::Refused(2),
-            state: s,
-        };
+        return change::kept(Answer::Refused(2));
     }
     dispatch(event, payload, s, memory, buffer)
+}
+
+// One event, and the next state.
+pub fn step(event: Event, payload: &[u8], s: State, memory: &mut [u8], buffer: &mut [u8]) -> Stepped
+    ensures { λ r. ⌜ Allowed.outOf r (now (memory .exit)) (now (buffer .exit)) ≡ rules.step s (now (memory .entry)) event (now (payload .entry)) (now (buffer .entry)) ⌝ }
+{
+    let c = decided(event, payload, s, memory, buffer);
+    let answer = c.answer;
+    let next = change::changed(s, c);
+    Stepped {
+        answer: answer,
+        state: next,
+    }
 }

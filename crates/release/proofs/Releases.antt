@@ -30,10 +30,13 @@ use Rattle.rules.specs.Plan.{Plan, refuse, still, nothing, keep, same}
 use Rattle.rules.specs.Tests.{given, withCard, underMark, mayReach, execute, ownCode}
 use Rattle.rules.specs.Decide.{released, unregisterRule, jumpLegacy, jumpSecure}
 use Rattle.rules.specs.Act.{sealed}
-use Rattle.touch.specs.Carried.{Steps}
-use Rattle.touch.proofs.Plans.{pass, stop, still-steps}
+use Rattle.touch.proofs.Plans.{pass, stop}
 use Rattle.touch.proofs.Ready.{right, few-pages, few-runs, ready, long}
-use Rattle.release.specs.Release.{RunsIn, vacated}
+use Rattle.change.specs.declared.Change.{Change}
+use Rattle.change.specs.declared.Turn.the-variants.{Kept, Frees}
+use Rattle.change.specs.Turns.{vacated, turnOf, Settles}
+use Rattle.change.proofs.Settled.{still-settles, to-plan}
+use Rattle.release.specs.Release.{RunsIn}
 
 -- ---- a slot's runs lie in memory
 
@@ -77,9 +80,16 @@ module _ (s : State) (k : ℕ) (e : length (s .slots) ≡ slotCount) (l : k < sl
       ap (λ (xs : List Slot). record { pages = s .pages; kept = s .kept; owner = given (s .owner) (cardAt (faceOf s) k .fields) 0; slots = xs; mode = Legacy; running = zeroRunning })
       (sym (state-set s k zeroSlot e l))
 
-  pub released-steps : (t : State) → t ≡ vacated s k → m′ ≡ wipe pageSize m (pagesOf (cardAt (faceOf s) k .fields)) → Steps (released (faceOf s) k a) payload (pcrsOf s) m (record { answer = a; state = t }) m′
+  pub released-settles : stateRight s ≡ true → (c : Change) → c ≡ turnOf a (Frees k)
+      → m′ ≡ wipe pageSize m (pagesOf (fieldsOf (getD (s .slots) k noSlot .card .fields .r) 0 (getD (s .slots) k noSlot .card .fields .runs) []))
+      → Settles (released (faceOf s) k a) payload s m c m′
   unfolding released
-  released-steps t p q = record { answer = refl; state = p ∙ vacated-state; memory = q }
+  released-settles h c p q =
+      subst (λ (z : Change). Settles (released (faceOf s) k a) payload s m z m′) (sym p)
+      (record {
+        steps = record { answer = refl; state = vacated-state; memory = q ∙ ap (wipe pageSize m) (pages-alone _ ∙ sym (ap (λ (y : Card). pagesOf (y .fields)) (card-at (s .slots) k))) };
+        fits = (l, runs-fit s h k l);
+      })
 
 -- ---- the ends of the rules
 
@@ -114,17 +124,16 @@ module _ (f : Face) (a : ℕ) where
   jump-away k e = pick-false _ _ _ e
 
 -- in legacy mode a jump leaves state and memory, whatever it answers
-pub jump-still : (s : State) → length (s .slots) ≡ slotCount → (a : ℕ) (payload m : List ℕ) (r : Answer) → r ≡ jumpLegacy (faceOf s) a .answer
-    → Steps (jumpLegacy (faceOf s) a) payload (pcrsOf s) m (record { answer = r; state = s }) m
-jump-still s e a payload m r q =
+pub jump-still : (s : State) → length (s .slots) ≡ slotCount → (a : ℕ) (payload m : List ℕ) (r : Answer) → r ≡ jumpLegacy (faceOf s) a .answer → (c : Change) → c ≡ turnOf r Kept
+    → Settles (jumpLegacy (faceOf s) a) payload s m c m
+jump-still s e a payload m r q c k =
     decided (ltb a (startOf (s .pages)))
     (λ t. decided (isOpen (faceOf s) (pageOf a))
     (λ u. by (jump-on (faceOf s) a t u))
     (λ u. by (jump-5 (faceOf s) a t u)))
     (λ t. by (jump-4 (faceOf s) a t))
   where
-    by : {b : Answer} → jumpLegacy (faceOf s) a ≡ still (faceOf s) nothing keep same b → Steps (jumpLegacy (faceOf s) a) payload (pcrsOf s) m (record { answer = r; state = s }) m
+    by : {b : Answer} → jumpLegacy (faceOf s) a ≡ still (faceOf s) nothing keep same b → Settles (jumpLegacy (faceOf s) a) payload s m c m
     by {b} g =
         let o : r ≡ b = q ∙ ap (λ (p : Plan). p .answer) g in
-        subst (λ (p : Plan). Steps p payload (pcrsOf s) m (record { answer = r; state = s }) m) (sym g)
-        (subst (λ (z : Answer). Steps (still (faceOf s) nothing keep same b) payload (pcrsOf s) m (record { answer = z; state = s }) m) (sym o) (still-steps s e nothing b payload m))
+        to-plan (sym g) payload s m (still-settles s e nothing b payload m c (k ∙ ap (λ (z : Answer). turnOf z Kept) o))

@@ -1,10 +1,10 @@
 // Jump: "Legacy: 4 if outside memory, 5 unless open. Secure: on a code page of its own, done; anywhere else, beyond memory too, it is released".
 use crate::release;
+use change::Change;
 use events::Answer;
 use geometry::Geometry;
 use state::Mode;
 use state::State;
-use touch::Stepped;
 use touch::pages;
 ghost use mathlib.Core.Path.{_≡_};
 ghost use mathlib.Core.Bool.{true, _&&_};
@@ -14,7 +14,7 @@ ghost use Rattle.geometry.specs.Geometry.{slotCount};
 ghost use Rattle.state.specs.Face.{faceOf};
 ghost use Rattle.wellformed.specs.WellFormed.{stateRight, wellFormed};
 ghost use Rattle.rules.specs.Decide.{jumpLegacy, jumpSecure, byMode};
-ghost use Rattle.touch.specs.Carried.{Acts};
+ghost use Rattle.change.specs.Turns.{Acts};
 
 fn jump_legacy(s: State, address: usize) -> Answer
     requires { ⌜ stateRight s ≡ true ⌝ }
@@ -30,34 +30,32 @@ fn jump_legacy(s: State, address: usize) -> Answer
     Answer::Done
 }
 
-fn jump_secure(s: State, memory: &mut [u8], k: usize, address: usize) -> Stepped
+fn jump_secure(s: State, memory: &mut [u8], k: usize, address: usize) -> Change
     requires { ⌜ (wellFormed s (length (now memory)) ≡ true) × (k < slotCount) ⌝ }
     ensures { λ r. ⌜ Acts (jumpSecure (faceOf s) k address) s (now (memory .entry)) r (now (memory .exit)) ⌝ }
 {
     let page = address / Geometry::PAGE;
     let own = pages::is_own(&s.owner, k, page);
     let code = pages::in_code_of(s, k, page);
+    let slot = s.slots[k];
+    let fields = slot.card.fields;
+    let n = fields.r;
+    let runs = fields.runs;
     if own & code {
-        return Stepped {
-            answer: Answer::Done,
-            state: s,
-        };
+        return change::kept(Answer::Done);
     }
-    Stepped {
-        answer: Answer::Terminated(k),
-        state: release::release(s, memory, k),
-    }
+    release::release(memory, n, runs, k, Answer::Terminated(k))
 }
 
-pub fn jump(s: State, memory: &mut [u8], address: usize) -> Stepped
+pub fn jump(s: State, memory: &mut [u8], address: usize) -> Change
     requires { ⌜ wellFormed s (length (now memory)) ≡ true ⌝ }
     ensures { λ r. ⌜ Acts (byMode (s .mode) (jumpLegacy (faceOf s) address) (λ k. jumpSecure (faceOf s) k address)) s (now (memory .entry)) r (now (memory .exit)) ⌝ }
 {
     let mode = s.mode;
     match mode {
-        Mode::Legacy => Stepped {
-            answer: jump_legacy(s, address),
-            state: s,
+        Mode::Legacy => {
+            let answer = jump_legacy(s, address);
+            change::kept(answer)
         },
         Mode::Secure(k) => jump_secure(s, memory, k, address),
     }

@@ -1,16 +1,15 @@
-use Rattle.touch.proofs.Ready.{few-pages}
 use lib.Dec.{eqb}
 use mathlib.Core.Bool.{Bool, _||_}
 use mathlib.Core.Path.{ap}
-use native.Mathlib.Omega.{arith}
+use borrow.Author.Needs.{needs}
 use Rattle.call.proofs.call.on_open.Statement.{statement}
 use Rattle.call.proofs.call.on_open.Tie as tie
 
 is-open-requires : tie.Need-is-open-requires
-is-open-requires c κs = omega (arith, few-pages (c .before .before .before .args .t1) (c .before .before .before .pre))
+is-open-requires c κs = search needs
 
 returns : tie.Need-returns
-returns c = ap (λ (t : Bool). eqb (c .before .before .before .before .args .n) 0 || t) (c .is-open .ensures)
+returns c = ap (λ (t : Bool). eqb (c .before .before .args .n) 0 || t) (c .is-open .ensures)
 
 pub on-open-spec : {M : Type 1} → statement M
 on-open-spec =

@@ -1,60 +1,76 @@
 use Rattle.call.proofs.return_.return_.Statement.{statement}
-use Rattle.call.proofs.Calls.{returned-steps, output-small, out-fits}
-use Rattle.touch.proofs.Ready.{ready, long, few-pages, runs-in}
+use Rattle.call.proofs.Calls.{returned-settles, output-small, out-fits, param-ready, param-same, param-in}
+use Rattle.touch.proofs.Ready.{ready, long, runs-in}
 use Rattle.state.proofs.Shaped.{state-shape}
 use Rattle.lists.specs.Bytes.{part}
 use lib.Seq.{sets}
 use Prim.Native.Nat.{_+_}
-use mathlib.Core.Path.{_∙_}
+use mathlib.Core.Path.{ap, _∙_}
+use Rattle.geometry.specs.Geometry.{startOf}
 use borrow.Author.Needs.{needs}
 use native.Mathlib.Omega.{arith}
 use Rattle.call.proofs.return_.return_.Tie as tie
 
-leaving-requires : tie.Need-leaving-requires
-leaving-requires c κs = search needs
-
 param-start-requires : tie.Need-param-start-requires
 param-start-requires c κs =
-    let z = c .before .before .before .before .before in
-    let h = ready (z .args .s) _ (z .pre .0) in
-    let q = runs-in (z .args .s) h (z .args .k) (z .pre .1) in
-    (h, (q .below, q .registered))
+    let a = c .before .before .before .before .before .before .before .before .args in
+    let h = ready (a .t1) _ (c .before .before .before .before .before .before .before .before .pre .0) in
+    let q = runs-in (a .t1) h (a .k) (c .before .before .before .before .before .before .before .before .pre .1) in
+    param-ready (a .t1) h (a .k) (q .below) (q .registered)
 
 add-from : tie.Need-add-from
-add-from c = let z = c .before .before .before .before .before .before in record { fits = omega (arith, c .param-start .ensures .0, c .param-start .ensures .1, few-pages (z .args .s) (ready (z .args .s) _ (z .pre .0))) }
+add-from c =
+    let a = c .before .before .before .before .before .before .before .before .before .args in
+    let h = ready (a .t1) _ (c .before .before .before .before .before .before .before .before .before .pre .0) in
+    let q = runs-in (a .t1) h (a .k) (c .before .before .before .before .before .before .before .before .before .pre .1) in
+    record { fits = omega (arith, c .param-start .ensures, param-ready (a .t1) h (a .k) (q .below) (q .registered) .1 .1) }
 
 move-bytes-requires : tie.Need-move-bytes-requires
 move-bytes-requires c κs =
-    let z = c .before .before .before .before .before .before .before in
-    let s = z .args .s in
-    let h = ready s _ (z .pre .0) in
-    let o = output-small s h (z .args .k) (z .pre .1) in
-    rw (c .before .before .before .before .leaving .ensures)
-    (omega (arith, c .before .param-start .ensures .0, c .before .param-start .ensures .1, long s _ (z .pre .0), o), (out-fits s _ (z .args .k) (z .pre .0) (z .pre .1), omega (arith, o)))
-
-rested-requires : tie.Need-rested-requires
-rested-requires c κs = search needs
-
-same-length : tie.Need-same-length
-same-length c = search needs
+    let s = c .before .before .before .before .before .before .before .before .before .before .args .t1 in
+    let h = ready s _ (c .before .before .before .before .before .before .before .before .before .before .pre .0) in
+    let q = runs-in s h (c .before .before .before .before .before .before .before .before .before .before .args .k) (c .before .before .before .before .before .before .before .before .before .before .pre .1) in
+    let e = c .before .param-start .ensures ∙ ap startOf (param-same s h (c .before .before .before .before .before .before .before .before .before .before .args .k) (q .below) (q .registered)) in
+    let o = output-small s h (c .before .before .before .before .before .before .before .before .before .before .args .k) (c .before .before .before .before .before .before .before .before .before .before .pre .1) in
+    rw (c .before .before .before .before .before .before .before .leaving .ensures)
+    (omega (arith, e, param-in s h (c .before .before .before .before .before .before .before .before .before .before .args .k) (q .below) (q .registered), long s _ (c .before .before .before .before .before .before .before .before .before .before .pre .0), o), (out-fits s _ (c .before .before .before .before .before .before .before .before .before .before .args .k) (c .before .before .before .before .before .before .before .before .before .before .pre .0) (c .before .before .before .before .before .before .before .before .before .before .pre .1), omega (arith, o)))
 
 returns : tie.Need-returns
 returns c = λ payload.
-    let z = c .before .before .before .before .before .before .before .before .before .before .before in
-    let a = z .args in
-    let q = c .before .before .before .before .before .before .before .before .leaving .ensures in
-    let e = (rw q at (c .before .before .before .move-bytes .ensures)) ∙ (λ i. sets (a .memory .now) (a .s .running .out) (part (a .memory .now) (c .before .before .before .before .before .param-start .ensures .0 i + 2048) (a .s .running .length))) in
-    rw q
-    (returned-steps (a .s) (state-shape (a .s) _ (z .good .0) .slots-long) (a .k) payload (a .memory .now) _ _ (rw q at (c .rested .ensures)) e)
+    let a = c .before .before .before .before .before .before .before .before .before .before .before .before .before .before .args in
+    let s = a .t1 in
+    let h = ready s _ (c .before .before .before .before .before .before .before .before .before .before .before .before .before .before .pre .0) in
+    let r = runs-in s h (a .k) (c .before .before .before .before .before .before .before .before .before .before .before .before .before .before .pre .1) in
+    let q = c .before .before .before .before .before .before .before .before .before .before .before .leaving .ensures in
+    let m = a .memory .now in
+    let e = (rw q at (c .before .before .before .move-bytes .ensures)) ∙ (λ i. sets m (s .running .out) (part m ((c .before .before .before .before .before .param-start .ensures ∙ ap startOf (param-same s h (a .k) (r .below) (r .registered))) i + 2048) (s .running .length))) in
+    returned-settles s (state-shape s _ (c .before .before .before .before .before .before .before .before .before .before .before .before .before .before .good .0) .slots-long) (a .k) payload m _ _ (rw q at (c .turned .ensures)) e
+
+leaving-requires : tie.Need-leaving-requires
+leaving-requires c κs = search needs
+
+mul-slot : tie.Need-mul-slot
+mul-slot c = omega (arith, runs-in (c .before .before .before .before .before .args .t1) (ready (c .before .before .before .before .before .args .t1) _ (c .before .before .before .before .before .pre .0)) (c .before .before .before .before .before .args .k) (c .before .before .before .before .before .pre .1) .below)
+
+element-copy-out-slot : tie.Need-element-copy-out-slot
+element-copy-out-slot c = omega (arith, runs-in (c .before .before .before .before .before .args .t1) (ready (c .before .before .before .before .before .args .t1) _ (c .before .before .before .before .before .pre .0)) (c .before .before .before .before .before .args .k) (c .before .before .before .before .before .pre .1) .below)
+
+turned-requires : tie.Need-turned-requires
+turned-requires c κs = search needs
+
+same-length : tie.Need-same-length
+same-length c = search needs
 
 pub return--spec : {M : Type 1} → statement M
 return--spec =
     tie.close
     (tie.spec
     leaving-requires
+    mul-slot
+    element-copy-out-slot
     param-start-requires
     add-from
     move-bytes-requires
-    rested-requires
+    turned-requires
     same-length
     returns)

@@ -1,5 +1,5 @@
-use Rattle.extend.proofs.Extending.{extend-10, extend-4, extend-5, extend-on, source-in, source-same, extended-steps}
-use Rattle.touch.proofs.Plans.{still-steps}
+use Rattle.extend.proofs.Extending.{extend-10, extend-4, extend-5, extend-on, source-in, source-same, extended-settles}
+use Rattle.change.proofs.Settled.{still-settles}
 use Rattle.touch.proofs.Ready.{long}
 use Rattle.rules.specs.Plan.{nothing}
 use Rattle.events.specs.declared.Answer.the-variants as answer
@@ -18,30 +18,30 @@ use Rattle.extend.proofs.extend.extend.Tie as tie
 
 returns : tie.Need-returns
 returns c =
-    let z = c .before .before .before in
+    let z = c .before .before .before .before in
     let a = z .args in
-    rw (extend-10 (faceOf (a .s)) (a .k) (length (a .payload .now)) (a .index) (a .source) (a .address) (a .n) (le-ltb (a .index) pcrCount (c .if1 .taken)))
-    (still-steps (a .s) (state-shape (a .s) _ (z .good .0) .slots-long) nothing (answer.Refused 10) (a .payload .now) (a .memory .now))
+    rw (extend-10 (faceOf (a .s)) (a .k) (length (a .payload .now)) (a .index) (a .source) (a .address) (a .n) (le-ltb (a .index) pcrCount (c .before .if1 .taken)))
+    (still-settles (a .s) (state-shape (a .s) _ (z .good .0) .slots-long) nothing (answer.Refused 10) (a .payload .now) (a .memory .now) _ (c .kept .ensures))
 
 source-right-requires : tie.Need-source-right-requires
 source-right-requires c κs = search needs
 
 returns-2 : tie.Need-returns-2
 returns-2 c =
-    let z = c .before .before .before .before .before in
+    let z = c .before .before .before .before .before .before in
     let a = z .args in
-    rw (extend-4 (faceOf (a .s)) (a .k) (length (a .payload .now)) (a .index) (a .source) (a .address) (a .n) (lt-ltb (a .index) pcrCount (c .before .before .if1 .left)) (sym (c .before .source-right .ensures) ∙ not-true _ (c .if2 .taken)))
-    (still-steps (a .s) (state-shape (a .s) _ (z .good .0) .slots-long) nothing (answer.Refused 4) (a .payload .now) (a .memory .now))
+    rw (extend-4 (faceOf (a .s)) (a .k) (length (a .payload .now)) (a .index) (a .source) (a .address) (a .n) (lt-ltb (a .index) pcrCount (c .before .before .before .if1 .left)) (sym (c .before .before .source-right .ensures) ∙ not-true _ (c .before .if2 .taken)))
+    (still-settles (a .s) (state-shape (a .s) _ (z .good .0) .slots-long) nothing (answer.Refused 4) (a .payload .now) (a .memory .now) _ (c .kept2 .ensures))
 
 source-reached-requires : tie.Need-source-reached-requires
 source-reached-requires c κs = c .before .before .before .before .before .pre .1
 
 returns-3 : tie.Need-returns-3
 returns-3 c =
-    let z = c .before .before .before .before .before .before .before in
+    let z = c .before .before .before .before .before .before .before .before in
     let a = z .args in
-    rw (extend-5 (faceOf (a .s)) (a .k) (length (a .payload .now)) (a .index) (a .source) (a .address) (a .n) (lt-ltb (a .index) pcrCount (c .before .before .before .before .if1 .left)) (sym (c .before .before .before .source-right .ensures) ∙ not-false _ (c .before .before .if2 .left)) (sym (c .before .source-reached .ensures) ∙ not-true _ (c .if3 .taken)))
-    (still-steps (a .s) (state-shape (a .s) _ (z .good .0) .slots-long) nothing (answer.Refused 5) (a .payload .now) (a .memory .now))
+    rw (extend-5 (faceOf (a .s)) (a .k) (length (a .payload .now)) (a .index) (a .source) (a .address) (a .n) (lt-ltb (a .index) pcrCount (c .before .before .before .before .before .if1 .left)) (sym (c .before .before .before .before .source-right .ensures) ∙ not-false _ (c .before .before .before .if2 .left)) (sym (c .before .before .source-reached .ensures) ∙ not-true _ (c .before .if3 .taken)))
+    (still-settles (a .s) (state-shape (a .s) _ (z .good .0) .slots-long) nothing (answer.Refused 5) (a .payload .now) (a .memory .now) _ (c .kept3 .ensures))
 
 kept-as-requires : tie.Need-kept-as-requires
 kept-as-requires c κs = search needs
@@ -56,9 +56,6 @@ chosen-requires c κs =
 hash-requires : tie.Need-hash-requires
 hash-requires c κs = search needs
 
-with-pcr-requires : tie.Need-with-pcr-requires
-with-pcr-requires c κs = search needs
-
 returns-4 : tie.Need-returns-4
 returns-4 c =
     let z = c .before .before .before .before .before .before .before .before .before .before .before in
@@ -67,19 +64,34 @@ returns-4 c =
     ∙ ap (λ (p : ℕ). chosenOf (a .payload .now) (a .memory .now) (a .source) p (a .n)) (c .before .before .before .kept-as .ensures)
     ∙ source-same (a .payload .now) (a .memory .now) (a .source) (a .address) (a .n)) in
     rw (extend-on (faceOf (a .s)) (a .k) (length (a .payload .now)) (a .index) (a .source) (a .address) (a .n) (lt-ltb (a .index) pcrCount (c .before .before .before .before .before .before .before .before .if1 .left)) (sym (c .before .before .before .before .before .before .before .source-right .ensures) ∙ not-false _ (c .before .before .before .before .before .before .if2 .left)) (sym (c .before .before .before .before .before .source-reached .ensures) ∙ not-false _ (c .before .before .before .before .if3 .left)))
-    (extended-steps (a .s) (state-shape (a .s) _ (z .good .0) .slots-long) (a .k) (z .pre .1) (a .index) (a .source) (a .address) (a .n) (a .payload .now) (a .memory .now) (c .before .hash .result) (c .with-pcr .result) h (c .with-pcr .ensures))
+    (extended-settles (a .s) (state-shape (a .s) _ (z .good .0) .slots-long) (a .k) (z .pre .1) (a .index) (c .before .before .before .before .before .before .before .before .if1 .left) (a .source) (a .address) (a .n) (a .payload .now) (a .memory .now) (c .before .hash .result) _ h (c .extending .ensures))
+
+kept-requires : tie.Need-kept-requires
+kept-requires c κs = search needs
+
+kept-requires-2 : tie.Need-kept-requires-2
+kept-requires-2 c κs = search needs
+
+kept-requires-3 : tie.Need-kept-requires-3
+kept-requires-3 c κs = search needs
+
+extending-requires : tie.Need-extending-requires
+extending-requires c κs = search needs
 
 pub extend-spec : {M : Type 1} → statement M
 extend-spec =
     tie.close
     (tie.spec
+    kept-requires
     returns
     source-right-requires
+    kept-requires-2
     returns-2
     source-reached-requires
+    kept-requires-3
     returns-3
     kept-as-requires
     chosen-requires
     hash-requires
-    with-pcr-requires
+    extending-requires
     returns-4)

@@ -1,4 +1,4 @@
-use Rattle.touch.proofs.Plans.{in-mode}
+use Rattle.change.proofs.Settled.{in-mode}
 use Rattle.release.proofs.Releases.{jump-still}
 use Rattle.touch.proofs.Ready.{ready, mode-below}
 use Rattle.rules.specs.Decide.{jumpLegacy, jumpSecure, byMode}
@@ -22,10 +22,10 @@ jump-secure-requires c κs = let z = c .before .before .before .before .before i
 
 returns : tie.Need-returns
 returns c = λ payload.
-    let z = c .before .before .before .before in
+    let z = c .before .before .before .before .before in
     let a = z .args in
-    in-mode (λ m. byMode m (jumpLegacy (faceOf (a .s)) (a .address)) (λ k. jumpSecure (faceOf (a .s)) k (a .address))) payload (pcrsOf (a .s)) (a .memory .now) (c .before .enum-told .given .1)
-    (jump-still (a .s) (state-shape (a .s) _ (z .good .0) .slots-long) (a .address) payload (a .memory .now) (c .jump-legacy .result) (c .jump-legacy .ensures))
+    in-mode (λ m. byMode m (jumpLegacy (faceOf (a .s)) (a .address)) (λ k. jumpSecure (faceOf (a .s)) k (a .address))) payload (a .s) (a .memory .now) (c .before .before .enum-told .given .1)
+    (jump-still (a .s) (state-shape (a .s) _ (z .good .0) .slots-long) (a .address) payload (a .memory .now) (c .before .jump-legacy .result) (c .before .jump-legacy .ensures) _ (c .kept .ensures))
 
 same-length : tie.Need-same-length
 same-length c = search needs
@@ -34,8 +34,11 @@ returns-2 : tie.Need-returns-2
 returns-2 c = λ payload.
     let z = c .before .before .before .before .before .before .before .before in
     let a = z .args in
-    in-mode (λ m. byMode m (jumpLegacy (faceOf (a .s)) (a .address)) (λ k. jumpSecure (faceOf (a .s)) k (a .address))) payload (pcrsOf (a .s)) (a .memory .now) (c .before .before .before .before .before .mode .given .1)
+    in-mode (λ m. byMode m (jumpLegacy (faceOf (a .s)) (a .address)) (λ k. jumpSecure (faceOf (a .s)) k (a .address))) payload (a .s) (a .memory .now) (c .before .before .before .before .before .mode .given .1)
     (c .before .before .jump-secure .ensures payload)
+
+kept-requires : tie.Need-kept-requires
+kept-requires c κs = search needs
 
 pub jump-spec : {M : Type 1} → statement M
 jump-spec =
@@ -43,6 +46,7 @@ jump-spec =
     (tie.spec
     enum-told
     jump-legacy-requires
+    kept-requires
     enum-known-mode
     jump-secure-requires
     returns

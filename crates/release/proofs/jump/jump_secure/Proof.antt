@@ -1,5 +1,5 @@
-use Rattle.release.proofs.Releases.{jump-own, jump-away, released-steps}
-use Rattle.touch.proofs.Plans.{still-steps}
+use Rattle.release.proofs.Releases.{jump-own, jump-away, released-settles, runs-in}
+use Rattle.change.proofs.Settled.{still-settles}
 use Rattle.touch.proofs.Ready.{ready}
 use Rattle.rules.specs.Tests.{ownCode}
 use Rattle.rules.specs.Plan.{nothing}
@@ -21,25 +21,34 @@ in-code-of-requires c κs = let z = c .before .before .before .before .before in
 
 returns : tie.Need-returns
 returns c = λ payload.
-    let z = c .before .before .before .before .before .before .before in
+    let z = c .before .before .before .before .before .before .before .before .before .before .before in
     let a = z .args in
-    let o : ownCode (faceOf (a .t1)) (a .k) (pageOf (a .address)) ≡ true = sym (λ i. c .before .before .is-own .ensures i && c .before .in-code-of .ensures i) ∙ c .if1 .taken in
+    let o : ownCode (faceOf (a .t1)) (a .k) (pageOf (a .address)) ≡ true = sym (λ i. c .before .before .before .before .before .before .is-own .ensures i && c .before .before .before .before .before .in-code-of .ensures i) ∙ c .before .if1 .taken in
     rw (jump-own (faceOf (a .t1)) (a .address) (a .k) o)
-    (still-steps (a .t1) (state-shape (a .t1) _ (z .good .0) .slots-long) nothing answer.Done payload (a .memory .now))
+    (still-settles (a .t1) (state-shape (a .t1) _ (z .good .0) .slots-long) nothing answer.Done payload (a .memory .now) _ (c .kept .ensures))
+
+mul-slot : tie.Need-mul-slot
+mul-slot c = search needs
+
+element-copy-out-slot : tie.Need-element-copy-out-slot
+element-copy-out-slot c = search needs
 
 release-requires : tie.Need-release-requires
-release-requires c κs = c .before .before .before .before .before .before .before .before .pre
+release-requires c κs = let z = c .before .before .before .before .before .before .before .before .before .before .before in runs-in (z .args .t1) _ (z .pre .0) (z .args .k) (z .pre .1)
 
 same-length : tie.Need-same-length
 same-length c = search needs
 
 returns-2 : tie.Need-returns-2
 returns-2 c = λ payload.
-    let z = c .before .before .before .before .before .before .before .before .before .before .before in
+    let z = c .before .before .before .before .before .before .before .before .before .before .before .before .before .before in
     let a = z .args in
-    let o : ownCode (faceOf (a .t1)) (a .k) (pageOf (a .address)) ≡ false = sym (λ i. c .before .before .before .before .before .before .is-own .ensures i && c .before .before .before .before .before .in-code-of .ensures i) ∙ c .before .before .before .before .if1 .left in
+    let o : ownCode (faceOf (a .t1)) (a .k) (pageOf (a .address)) ≡ false = sym (λ i. c .before .before .before .before .before .before .before .before .before .is-own .ensures i && c .before .before .before .before .before .before .before .before .in-code-of .ensures i) ∙ c .before .before .before .before .if1 .left in
     rw (jump-away (faceOf (a .t1)) (a .address) (a .k) o)
-    (released-steps (a .t1) (a .k) (state-shape (a .t1) _ (z .good .0) .slots-long) (z .pre .1) (answer.Terminated (a .k)) payload (a .memory .now) _ (c .before .before .release .result) (c .before .before .release .ensures .0) (c .before .before .release .ensures .1))
+    (released-settles (a .t1) (a .k) (state-shape (a .t1) _ (z .good .0) .slots-long) (z .pre .1) (answer.Terminated (a .k)) payload (a .memory .now) _ (ready (a .t1) _ (z .pre .0)) _ (c .before .before .release .ensures .0) (c .before .before .release .ensures .1))
+
+kept-requires : tie.Need-kept-requires
+kept-requires c κs = search needs
 
 pub jump-secure-spec : {M : Type 1} → statement M
 jump-secure-spec =
@@ -47,6 +56,9 @@ jump-secure-spec =
     (tie.spec
     is-own-requires
     in-code-of-requires
+    mul-slot
+    element-copy-out-slot
+    kept-requires
     returns
     release-requires
     same-length

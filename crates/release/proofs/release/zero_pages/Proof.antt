@@ -1,4 +1,4 @@
-use Rattle.release.proofs.Given.{wipe-turn}
+use Rattle.release.proofs.Wiped.{wipe-turn}
 use Rattle.fields.specs.Pages.{runPages, pagesOf}
 use Rattle.fields.specs.Fields.{fieldsOf}
 use Rattle.geometry.specs.Geometry.{pageSize}

@@ -2,8 +2,8 @@ use Rattle.state.specs.declared.Slot.{Slot}
 use lib.ListN.{set}
 use mathlib.Core.Path.{ap}
 use borrow.Author.Needs.{needs}
-use Rattle.extend.proofs.extend.with_pcr.Statement.{statement}
-use Rattle.extend.proofs.extend.with_pcr.Tie as tie
+use Rattle.change.proofs.with_pcr.Statement.{statement}
+use Rattle.change.proofs.with_pcr.Tie as tie
 
 mul-slot : tie.Need-mul-slot
 mul-slot c = search needs
@@ -12,7 +12,7 @@ element-copy-out-slot : tie.Need-element-copy-out-slot
 element-copy-out-slot c = search needs
 
 extended-requires : tie.Need-extended-requires
-extended-requires c κs = c .before .pre .1
+extended-requires c κs = search needs
 
 mul-t8 : tie.Need-mul-t8
 mul-t8 c = search needs
@@ -29,10 +29,4 @@ returns c =
 pub with-pcr-spec : {M : Type 1} → statement M
 with-pcr-spec =
     tie.close
-    (tie.spec
-    mul-slot
-    element-copy-out-slot
-    extended-requires
-    mul-t8
-    element-set-from-t
-    returns)
+    (tie.spec mul-slot element-copy-out-slot extended-requires mul-t8 element-set-from-t returns)

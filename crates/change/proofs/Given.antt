@@ -1,15 +1,13 @@
--- Painting the owner table run by run gives the pages; wiping run by run wipes them.
-use Prim.Native.Nat.{ℕ, _+_, _≤_, _<_}
+-- Painting the owner table run by run gives the pages.
+use Prim.Native.Nat.{ℕ, _≤_, _<_}
 use native.Mathlib.Omega.{arith}
-use mathlib.Core.Path.{_≡_, sym, ap, _∙_}
+use mathlib.Core.Path.{_≡_, sym, _∙_}
 use mathlib.Core.List.{List}
 use lib.ListN.{length, getD}
 use lib.Seq.{ext-getD}
-use Rattle.lists.specs.Below.{pick, table, joined}
-use Rattle.lists.specs.Bytes.{wipe}
+use Rattle.lists.specs.Below.{pick, table}
 use Rattle.lists.proofs.Logic.{decided, pick-true, pick-false}
-use Rattle.lists.proofs.Tables.{table-long, table-at, joined-more}
-use Rattle.lists.proofs.Pages.{wipe-append}
+use Rattle.lists.proofs.Tables.{table-long, table-at}
 use Rattle.geometry.specs.Geometry.{mostPages}
 use Rattle.fields.specs.declared.Fields.{Fields}
 use Rattle.fields.specs.Fields.{runAt, endOf}
@@ -35,8 +33,3 @@ given-painted owner x v e fit =
     each p l =
         let b : p < mostPages = omega (arith, runs-long owner (x .runs) v (x .r)) in
         at p b ∙ sym (table-at (givenAt owner x v) mostPages p 0 b)
-
--- a turn of a loop that wipes list after list of pages
-pub wipe-turn : {d d′ : List ℕ} (z : ℕ) (m : List ℕ) (v : ℕ → List ℕ) (i : ℕ) → d ≡ wipe z m (joined i v) → d′ ≡ wipe z d (v i) → d′ ≡ wipe z m (joined (i + 1) v)
-wipe-turn z m v i e h =
-    h ∙ ap (λ (l : List ℕ). wipe z l (v i)) e ∙ sym (wipe-append z (joined i v) (v i) m) ∙ ap (wipe z m) (sym (joined-more v i))
