@@ -1,6 +1,7 @@
 //! Calls below the line program, as a script of text: each line sets something or calls a function of the host's interface, and has one line for an answer. tests/host/calls.c
 //! takes the same scripts through the archive. After an event the whole of state, memory and buffer is told as a number (`digest`).
 use crate::board::Board;
+use crate::digest::digest;
 use crate::event::{Answer, Event, No};
 use crate::line::{hex, pairs};
 use crate::manifest::{Manifest, PAGE};
@@ -164,15 +165,6 @@ fn told(answer: Result<Answer, No>, room: usize) -> String {
         }
     };
     format!("{number} {kind} {value} {:016x}", digest(&buffer))
-}
-
-/// A number for bytes: eight at a time, and the rest one by one.
-pub fn digest(bytes: &[u8]) -> u64 {
-    let step = |sum: u64, word: u64| (sum ^ word).wrapping_mul(0x100000001b3).rotate_left(23);
-    let words = bytes.chunks_exact(8);
-    let rest = words.remainder();
-    let sum = words.fold(bytes.len() as u64, |sum, b| step(sum, u64::from_le_bytes([b[0], b[1], b[2], b[3], b[4], b[5], b[6], b[7]])));
-    rest.iter().fold(sum, |sum, byte| step(sum, *byte as u64))
 }
 
 fn fields_bytes(fields: &Fields) -> Vec<u8> {

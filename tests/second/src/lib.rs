@@ -3,8 +3,10 @@
 //! and numbers" is a picture of the board (`picture`), and a picture is well formed when a board can be made of it.
 pub mod board;
 pub mod calls;
+pub mod digest;
 pub mod event;
 pub mod line;
 pub mod manifest;
 pub mod picture;
+pub mod program;
 pub mod sha1;

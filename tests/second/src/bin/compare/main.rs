@@ -2,11 +2,13 @@
 //!   compare trace SEED LINES [P M ROOM]                         writes a trace
 //!   compare lines OPTION .. -- PROGRAM ARGUMENT ..              traces for the line program
 //!   compare calls OPTION .. -- PROGRAM ARGUMENT ..              scripts of calls, for tests/host/calls.c
+//!   compare mutants FILE SOURCE LIBRARY KEPT                    wrong rules, each held to what was kept in that folder
 //! Options: seed N; traces N and lines N (of each); seconds N (as many traces as fit); sizes P M ROOM; keep NAME (NAME-..in and NAME-..out have what was asked and answered);
 //! all (cases that depend on no seed too; fails where an answer that can be given was not).
 mod cases;
 mod clauses;
 mod makers;
+mod mutants;
 mod random;
 mod rival;
 mod seen;
@@ -71,7 +73,8 @@ fn main() {
         }
         Some("lines") => compare_lines(&options(&words[1..])),
         Some("calls") => compare_calls(&options(&words[1..])),
-        _ => panic!("trace, lines or calls"),
+        Some("mutants") => mutants::find_all(&words[1], &words[2], &words[3], &words[4]),
+        _ => panic!("trace, lines, calls or mutants"),
     }
 }
 
