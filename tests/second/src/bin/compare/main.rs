@@ -196,11 +196,21 @@ fn show_difference(lines: Vec<Vec<u8>>, ours: &dyn Fn(&[u8]) -> Vec<u8>, rival: 
         None => return println!("one of them ends early"),
     };
     let least = shrunk(lines[..=at.min(lines.len() - 1)].to_vec(), |lines| first(lines).is_some());
-    println!("line {} of the trace; {} lines are enough:", at + 1, least.len());
+    let file = std::env::current_exe().unwrap().with_file_name("differs.in");
+    std::fs::write(&file, joined(&least)).unwrap();
+    println!("line {} of the trace; {} lines are enough, whole in {}:", at + 1, least.len(), file.display());
     for line in &least {
-        println!("  {}", String::from_utf8_lossy(line));
+        println!("  {}", short(line, 0));
     }
     if let Some((_, x, y)) = first(&least) {
-        println!("second: {}\nproved: {}", String::from_utf8_lossy(&x), String::from_utf8_lossy(&y));
+        let same = x.iter().zip(&y).take_while(|(a, b)| a == b).count();
+        println!("second: {}\nproved: {}", short(&x, same), short(&y, same));
     }
+}
+
+/// At most 200 characters, about that place.
+fn short(line: &[u8], place: usize) -> String {
+    let (from, to) = (place.saturating_sub(100), line.len().min(place.saturating_sub(100) + 200));
+    let part = String::from_utf8_lossy(&line[from.min(to)..to]).into_owned();
+    format!("{}{part}{}", if from > 0 { format!("(from character {from}) ..") } else { String::new() }, if to < line.len() { ".." } else { "" })
 }
