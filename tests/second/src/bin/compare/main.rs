@@ -106,7 +106,6 @@ fn compare_lines(options: &Options) {
         }
     }
     let (mut seen, began, mut traces) = (Seen::default(), Instant::now(), 0);
-    let mut kept = (Vec::new(), Vec::new());
     while if options.seconds > 0 { began.elapsed().as_secs() < options.seconds } else { traces < options.traces } {
         let lines = trace(options.seed.wrapping_add(traces as u64), options.lines, options.sizes);
         let input = joined(&lines);
@@ -117,20 +116,11 @@ fn compare_lines(options: &Options) {
             exit(1);
         }
         note(&mut seen, &lines, options.sizes);
-        if options.keep.is_some() {
-            kept.0.push(input);
-            kept.1.push(theirs);
-        }
+        keep(options, traces, &input, &theirs);
         traces += 1;
     }
     println!("compare: seed {}: {traces} traces, {} lines, the same answers", options.seed, seen.lines);
     seen.show(options.all);
-    if let Some(name) = &options.keep {
-        for (i, (asked, answered)) in kept.0.iter().zip(&kept.1).enumerate() {
-            std::fs::write(format!("{name}-{i}.in"), asked).unwrap();
-            std::fs::write(format!("{name}-{i}.out"), answered).unwrap();
-        }
-    }
     if options.all {
         fail_for(&seen.lacking());
     }
@@ -154,14 +144,19 @@ fn compare_calls(options: &Options) {
         }
         let calls = seen.note(&script.lines, &script.answers);
         println!("compare: calls, {}: {calls}, the same answers, states, memory and buffers", script.name);
-        if let Some(name) = &options.keep {
-            std::fs::write(format!("{name}-{i:02}.in"), input).unwrap();
-            std::fs::write(format!("{name}-{i:02}.out"), theirs).unwrap();
-        }
+        keep(options, i, &input, &theirs);
     }
     if options.all {
         seen.show();
         fail_for(&seen.lacking());
+    }
+}
+
+/// What was asked and answered, in files for the mutants.
+fn keep(options: &Options, i: usize, asked: &[u8], answered: &[u8]) {
+    if let Some(name) = &options.keep {
+        std::fs::write(format!("{name}-{i:02}.in"), asked).unwrap();
+        std::fs::write(format!("{name}-{i:02}.out"), answered).unwrap();
     }
 }
 

@@ -89,7 +89,7 @@ pub fn find_all(file: &str, source: &str, library: &str, kept: &str) {
     let mut files: Vec<PathBuf> = fs::read_dir(kept).unwrap().map(|file| file.unwrap().path()).filter(|file| file.extension().map_or(false, |end| end == "in")).collect();
     // most are found by the first trace, the others by the scripts
     let name = |file: &PathBuf| file.file_stem().unwrap().to_string_lossy().into_owned();
-    files.sort_by_key(|file| (name(file) != "lines-0", name(file)));
+    files.sort_by_key(|file| (name(file) != "lines-00", name(file)));
     let (next, missed) = (AtomicUsize::new(0), AtomicUsize::new(0));
     let work = |folder: PathBuf| {
         while let Some(mutant) = all.get(next.fetch_add(1, Ordering::SeqCst)) {
