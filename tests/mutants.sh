@@ -11,7 +11,8 @@ host/archive.sh >/dev/null
 "$gcc" "${flags[@]}" -O2 tests/host/calls.c target/host/libhost.a -o "$room/calls"
 
 compare() { timeout 240 target/second/release/compare "$@"; }
-compare lines seed 1 traces 3 lines 5000 keep "$room/lines" -- tests/run bench >/dev/null
+kept() { "$@" >"$room/said" || { cat "$room/said"; exit 1; }; }
+kept compare lines seed 1 traces 3 lines 5000 keep "$room/lines" -- tests/run bench
 # shellcheck disable=SC2086
-compare calls seed 1 all keep "$room/calls" -- $run "$room/calls" >/dev/null
+kept compare calls seed 1 all keep "$room/calls" -- $run "$room/calls"
 compare mutants tests/second/mutants.txt tests/second/src target/second/release/libsecond.rlib "$room"
