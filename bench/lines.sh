@@ -20,7 +20,8 @@ if [ "$(uname -m)" != x86_64 ]; then
 fi
 install "$gcc" gcc
 trace=$work/trace-$lines
-[ -s "$trace" ] || { python3 tests/second/traces.py 1 "$lines" >"$trace.new" && mv "$trace.new" "$trace"; }
+tests/second/build.sh
+[ -s "$trace" ] || { target/second/release/compare trace 1 "$lines" >"$trace.new" && mv "$trace.new" "$trace"; }
 
 # tests/run finds its program in target/bin
 "$gcc" -std=gnu11 -O3 bench/lines_c.c bench/monitor.c -o target/bin/bench-c

@@ -9,10 +9,13 @@ if [ "$(uname -m)" != x86_64 ]; then
 fi
 command -v "$nm" >/dev/null || { apt-get update -qq && apt-get install -y -qq "$package"; } >/dev/null
 
-mkdir -p target
-rt staticlib host >target/staticlib-host.log 2>&1 || { tail -n 5 target/staticlib-host.log; exit 1; }
-mkdir -p target/host
-cp target/staticlib/libhost.a host/monitor.h target/host/
+# an archive that is newer than all that it is made of is not made again
+if [ ! -s target/host/libhost.a ] || [ -n "$(find crates crates.txt -newer target/host/libhost.a -print -quit)" ]; then
+    mkdir -p target/host
+    rt staticlib host >target/staticlib-host.log 2>&1 || { tail -n 5 target/staticlib-host.log; exit 1; }
+    cp target/staticlib/libhost.a target/host/
+fi
+cp host/monitor.h target/host/
 
 echo "archive: $("$size" -t target/host/libhost.a | awk 'END { print $1 " bytes of code and constants, " $2 + $3 " of data" }')"
 echo "archive: functions for C: $("$nm" -g --defined-only target/host/libhost.a | awk '$3 ~ /^monitor_/ { print $3 }' | sort | tr '\n' ' ')"

@@ -1,22 +1,14 @@
 #!/bin/bash
-# The C interface: the archive and what it needs, the header as C and as C++, tests/host/check.c by two compilers with and without sanitizers, random events
-# beside the second monitor, and the deepest stack. On a machine that is no x86-64 the programs run under an emulator, in which the address sanitizer takes
+# The C interface: the archive and what it needs, the header as C and as C++, tests/host/check.c by two compilers with and without sanitizers,
+# and the deepest stack; tests/compare.sh compares it with the second monitor. On a machine that is no x86-64 the programs run under an emulator, in which the address sanitizer takes
 # all memory there is: there it is left out, and undefined behaviour and the guard bytes around every buffer are watched alone.
 set -euo pipefail
 cd "$(dirname "$0")/.."
 host/archive.sh
 
-install() { # COMMAND PACKAGE
-    command -v "$1" >/dev/null || { apt-get update -qq && apt-get install -y -qq "$2"; } >/dev/null
-}
-gcc=gcc run='' clang='clang' sanitizers=address,undefined
-if [ "$(uname -m)" != x86_64 ]; then
-    gcc=x86_64-linux-gnu-gcc run=qemu-x86_64-static clang='clang --target=x86_64-linux-gnu' sanitizers=undefined
-    export QEMU_LD_PREFIX=/usr/x86_64-linux-gnu
-    install "$run" qemu-user-static
-    install "$gcc" gcc-x86-64-linux-gnu
-fi
-install "$gcc" gcc
+. tests/host/tools.sh
+clang='clang' sanitizers=address,undefined
+[ -z "$run" ] || clang='clang --target=x86_64-linux-gnu' sanitizers=undefined
 install clang clang
 if [ "$sanitizers" = address,undefined ]; then # clang's own library of the sanitizer is a package of its own
     echo 'int main(void) { return 0; }' | clang -x c -fsanitize=address -o /dev/null - 2>/dev/null ||
@@ -24,7 +16,6 @@ if [ "$sanitizers" = address,undefined ]; then # clang's own library of the sani
 fi
 room=$(mktemp -d)
 trap 'rm -rf "$room"' EXIT
-flags=(-std=c11 -D_GNU_SOURCE -Wall -Wextra -Werror -Wno-unused-function -Itarget/host)
 
 for language in c c++; do
     echo '#include "monitor.h"' | $clang -x "$language" -Wall -Wextra -Werror -Itarget/host -fsyntax-only -
@@ -52,17 +43,6 @@ checked "clang -O0, sanitizers: $sanitizers" "$clang" -O0 -g -fsanitize="$saniti
 awk '/^```c$/ { on = 1; next } /^```$/ { on = 0 } on' docs/HOST.md >"$room/life.h"
 build life "$gcc" -O2 -I"$room" -Wno-empty-body
 echo "host: $($run "$room/life")"
-
-# lines that the second monitor can read, through the C interface
-build lines "$gcc" -O2
-for seed in 1 2 3; do
-    python3 tests/second/traces.py "$seed" 5000 >"$room/all"
-    python3 tests/second/monitor.py <"$room/all" >"$room/answers"
-    paste -d '\n' "$room/all" "$room/answers" | awk -v lines="$room/lines.in" -v second="$room/second" 'NR % 2 { line = $0; next } $0 != "no 11" { print line > lines; print > second }'
-    $run "$room/lines" <"$room/lines.in" >"$room/proved"
-    cmp "$room/second" "$room/proved"
-    echo "host: seed $seed: $(wc -l <"$room/second") events, answered as by the second monitor"
-done
 
 build stack "$gcc" -O2
 $run "$room/stack" 49152 # bytes; what makes it so deep stands in docs/HOST.md

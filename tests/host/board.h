@@ -6,7 +6,7 @@
 #include <stdlib.h>
 #include <string.h>
 
-enum { GUARD = 64, MOST = 16 * MONITOR_PAGE, ROOM = 4096, GUARDED = 0xA5 };
+enum { GUARD = 64, MOST = 1025 * MONITOR_PAGE, ROOM = 4096, GUARDED = 0xA5 };
 
 struct lent {
     uint8_t before[GUARD], bytes[MOST], after[GUARD];
