@@ -34,7 +34,7 @@ pub one-more : (room : ℕ) (l : List ℕ) (ls : List (List ℕ)) (x : Standing)
 unfolding answeredIn
 one-more room l ls x h = pick-true _ _ _ (le-leb (length (x .text) + longestText) room h)
 
-none-left : (room : ℕ) (ls : List (List ℕ)) (x : Standing) → ls ≡ [] → answeredIn room ls x ≡ x
+pub none-left : (room : ℕ) (ls : List (List ℕ)) (x : Standing) → ls ≡ [] → answeredIn room ls x ≡ x
 unfolding answeredIn
 none-left room ls x h = ap (λ (y : List (List ℕ)). answeredIn room y x) h
 

@@ -1,15 +1,11 @@
 -- Lines heard one after another, and the text of their answers.
-use Prim.Native.Nat.{ℕ, _+_, _*_}
+use Prim.Native.Nat.{ℕ, _+_}
 use mathlib.Core.List.{List, [], _∷_, _++_}
 use lib.ListN.{length}
 use lib.Dec.{leb}
 use Rattle.lists.specs.Below.{pick}
-use Rattle.lists.specs.Bytes.{zeros}
-use Rattle.geometry.specs.Geometry.{pageSize}
 use Rattle.state.specs.declared.State.{State}
-use Rattle.start.specs.Start.{freshState}
 use Rattle.rules.specs.Act.{Out}
-use Rattle.gather.specs.Lines.{linesOf}
 use Rattle.answers.specs.Text.{longestText, textOf}
 use Rattle.desk.specs.declared.Desk.{Desk}
 use Rattle.desk.specs.Heard.{heard}
@@ -29,11 +25,6 @@ answeredBy o l x = record { state = o .state; memory = o .memory; buffer = o .bu
 unfoldable pub answered : List ℕ → Standing → Standing
 answered l x = answeredBy (heard (x .state) (x .memory) l (x .buffer)) l x
 
--- all of some lines
-unfoldable pub answeredAll : List (List ℕ) → Standing → Standing
-answeredAll [] x = x
-answeredAll (l ∷ ls) x = answeredAll ls (answered l x)
-
 -- those of some lines before which there is room for any answer
 unfoldable pub answeredIn : ℕ → List (List ℕ) → Standing → Standing
 answeredIn room [] x = x
@@ -49,11 +40,3 @@ unasked s m buffer = standing s m buffer [] 0
 -- a desk, with memory, the answer buffer and the text as they are left
 abbrev pub standingOf : Desk → List ℕ → List ℕ → List ℕ → Standing
 standingOf d m buffer text = standing (d .state) m buffer text (d .at)
-
--- "on P=8, M=1, zeroed memory and a 4,096-byte answer buffer"
-abbrev pub fresh : Standing
-fresh = unasked (freshState 8 1) (zeros (8 * pageSize)) (zeros 4096)
-
--- what is printed for an input
-unfoldable pub outputOf : List ℕ → List ℕ
-outputOf input = answeredAll (linesOf input) fresh .text

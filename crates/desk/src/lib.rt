@@ -12,6 +12,7 @@ ghost use Rattle.gather.specs.Lines.{endedLines};
 ghost use Rattle.monitor.specs.Allowed.{outOf};
 ghost use Rattle.desk.specs.Heard.{heard};
 ghost use Rattle.desk.specs.Served.{answeredIn, unasked, standingOf};
+ghost use Rattle.desk.specs.Session.{Faithful, Thorough};
 
 // The payload's room is scratch space: what it holds afterwards has no meaning.
 pub fn hear(
@@ -74,3 +75,13 @@ pub fn serve(
         used: used,
     }
 }
+
+// What is written is what the input as a whole is answered, however it is cut and read.
+pub fn faithful()
+    ensures { λ _. ⌜ Faithful ⌝ }
+{}
+
+// Where nothing is printed, every line is heard.
+pub fn thorough()
+    ensures { λ _. ⌜ Thorough ⌝ }
+{}

@@ -83,9 +83,18 @@ some-ended l (c ∷ cs) (suc k) b h t =
     ∙ (some-ended (l ++ (c ∷ [])) cs k (omega arith) (λ i q. h (suc i) (omega arith)) t
     ∙ ap (λ (x : List ℕ). x ∷ endedLines [] (drop (suc k) cs)) (append-assoc l (c ∷ []) (take k cs)))
 
+some-open : (l t : List ℕ) (k : ℕ) → k < length t → ((i : ℕ) → i < k → isAt t newline i ≡ false) → isAt t newline k ≡ true → openLine l t ≡ openLine [] (drop (suc k) t)
+some-open l [] k b h t = absurd (omega arith)
+some-open l (c ∷ cs) zero b h t = open-newline l c cs t
+some-open l (c ∷ cs) (suc k) b h t = open-other l c cs (h 0 (omega arith)) ∙ some-open (l ++ (c ∷ [])) cs k (omega arith) (λ i q. h (suc i) (omega arith)) t
+
 -- a text's first line, or none
 pub first-line : (t : List ℕ) (e : ℕ) → e ≡ lineEnd t → e < length t → endedLines [] t ≡ take e t ∷ endedLines [] (drop (suc e) t)
 first-line t e h b = some-ended [] t e b (place-before t newline e h) (place-at t newline e h b)
+
+-- the line that has not ended is that of what follows
+pub first-open : (t : List ℕ) (e : ℕ) → e ≡ lineEnd t → e < length t → openLine [] t ≡ openLine [] (drop (suc e) t)
+first-open t e h b = some-open [] t e b (place-before t newline e h) (place-at t newline e h b)
 
 pub no-line : (t : List ℕ) (e : ℕ) → e ≡ lineEnd t → length t ≤ e → endedLines [] t ≡ []
 no-line t e h b = none-ended [] t (λ i q. place-before t newline e h i (omega arith))
