@@ -3,7 +3,8 @@
 - A function that returns something, or takes a `&mut`, has an `ensures`.
 - A function that has a `requires` stands in docs/PROMISES.md, "What inner functions ask", and every function that stands there has one:
   an entry point refuses bad input and asks nothing.
-- A function of a library that is no promise (`fn laws() ensures ..`) is named in the specs of a crate unique*: that its contract leaves one outcome is proved there.
+- A function of a library that is no promise (`fn laws() ensures ..`) has its theorem of one outcome in the specs of crate unique; where that is of a part of the
+  outcome only, the function stands in docs/PROMISES.md, "Exceptions to one outcome".
 """
 import pathlib
 import re
@@ -45,11 +46,23 @@ def functions(text):
         yield m.group(1), owner, text[begin:end], result.group(1) if result else "", clauses
 
 
+def named(title):
+    """The functions that a part of docs/PROMISES.md names."""
+    text = (ROOT / "docs/PROMISES.md").read_text(encoding="utf-8")
+    part = re.search(rf"^#+ {title}$(.*?)(?=^##|\Z)", text, re.M | re.S)
+    return set(re.findall(r"`(\w+::\w+)`", part.group(1))) if part else set()
+
+
+def theorem(place, unique):
+    """Of what the contract of the function at this place is proved to leave one: Outcome, View or nothing."""
+    alias = re.search(rf"^use {re.escape(place)} as (\S+)$", unique, re.M)
+    found = alias and re.search(rf"^  pub {alias.group(1)}-one : One(Outcome|View) {alias.group(1)}\.ended ", unique, re.M)
+    return found.group(1) if found else ""
+
+
 def main():
-    promises = (ROOT / "docs/PROMISES.md").read_text(encoding="utf-8")
-    part = re.search(r"^## What inner functions ask$(.*?)(?=^## |\Z)", promises, re.M | re.S)
-    listed = set(re.findall(r"`(\w+::\w+)`", part.group(1))) if part else set()
-    unique = "\n".join(f.read_text(encoding="utf-8") for f in ROOT.glob("crates/unique*/specs/*.antt"))
+    listed, exceptions = named("What inner functions ask"), named("Exceptions to one outcome")
+    unique = "\n".join(f.read_text(encoding="utf-8") for f in ROOT.glob("crates/unique/specs/*.antt"))
     faults, total, asking = [], 0, set()
     for path in sorted(ROOT.glob("crates/*/src/**/*.rt")):
         crate = path.relative_to(ROOT).parts[1]
@@ -64,8 +77,11 @@ def main():
                 asking.add(f"{crate}::{name}")
             module = "" if path.stem in ("lib", "main") else path.stem + "."
             place = f"Rattle.{crate}.proofs.{module}{owner + '.' if owner else ''}{name}"
-            if speaks and not program and not re.search(re.escape(place) + r"(?![\w])", unique):
-                faults.append(f"{where}: no theorem names {place}")
+            proved = theorem(place, unique)
+            if speaks and not program and not proved:
+                faults.append(f"{where}: no theorem of one outcome names {place}")
+            if proved == "View" and f"{crate}::{name}" not in exceptions:
+                faults.append(f"{where}: one outcome of a part only, and not among the exceptions in docs/PROMISES.md")
     faults += [f"docs/PROMISES.md, \"What inner functions ask\", lacks `{name}`" for name in sorted(asking - listed)]
     faults += [f"docs/PROMISES.md, \"What inner functions ask\": `{name}` asks nothing" for name in sorted(listed - asking)]
     print("\n".join(faults + [f"{total} public functions, {len(asking)} of them ask something of their caller, {len(faults)} faults"]))
