@@ -1,4 +1,4 @@
-"""Holds the pages to the repository: what docs/PROMISES.md names exists, and so does every file that a page links to or names."""
+"""Holds the pages to the repository: what docs/PROMISES.md and docs/MAP.md name exists, and so does every file that a page links to or names."""
 import pathlib
 import re
 import sys
@@ -17,7 +17,7 @@ def file_named(token):
 
 
 def known(token):
-    """Whether a token of docs/PROMISES.md stands for something that is there."""
+    """Whether a token of those two stands for something that is there."""
     edit = re.fullmatch(r"(\w+)/(\w+)", token)
     if edit and (ROOT / "crates" / edit.group(1) / "must-fail" / f"{edit.group(2)}.edit").exists():
         return True
@@ -42,7 +42,7 @@ def main():
         for token in re.findall(r"`([^`\n]+)`", text):
             seen += 1
             path = re.fullmatch(r"(?:crates|docs|tests|tools|examples|bench|host)/[\w./-]+", token) and "NAME" not in token
-            if not known(token) if page.name == "PROMISES.md" else path and not file_named(token):
+            if not known(token) if page.name in ("PROMISES.md", "MAP.md") else path and not file_named(token):
                 faults.append(f"{page.name}: `{token}` names nothing that is there")
     print("\n".join(faults + [f"{len(PAGES)} pages, {seen} names, {len(faults)} faults"]))
     sys.exit(1 if faults or not seen else 0)
