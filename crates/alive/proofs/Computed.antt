@@ -80,157 +80,66 @@ examples-hold =
 
 -- ---- the tables
 
+infixr 5 _▸_
+-- a row's proof, and those of the rows behind it
+_▸_ : {A B : Type 0} → A → B → A × B
+a ▸ b = (a, b)
+
 pub events-accepted : Holds accepted
 unfolding accepted startOf freshState held slotFrom fieldsFrom decide guard ruleIn registerRule registered unregisterRule released callRule callEntry entered returnRule jumpLegacy jumpSecure readRule writeRule extendRule pcrRule slotFor entryOf freeSlot allOpen isRange all-below any-below first-below hasPage inCode long littleAt part placed table sum-below countsRight runsRise pagesFew someCode oneParam runsRight entriesRise entriesRight unusedZero keepsRules fieldsAt trailerRight accepts refusedReading readManifest
-events-accepted = (
-  told fresh well-fresh _ _ _ _ _ refl,
-  (
-    told fresh well-fresh _ _ _ _ _ refl,
-    (
-      told rests (well-idle someZeros) _ _ _ _ _ refl,
-      (
-        told rests (well-idle someZeros) _ _ _ _ _ refl,
-        (
-          told rests (well-idle someZeros) _ _ _ _ _ refl,
-          (
-            told rests (well-idle someZeros) _ _ _ _ _ refl,
-            (
-              told rests (well-idle someZeros) _ _ _ _ _ refl,
-              (
-                told rests (well-idle someZeros) _ _ _ _ _ refl,
-                (
-                  told rests (well-idle someZeros) _ _ _ _ _ refl,
-                  (
-                    told rests (well-idle someZeros) _ _ _ _ _ refl,
-                    (
-                      told runs (well-called someZeros) _ _ _ _ _ refl,
-                      (
-                        told runs (well-called someZeros) _ _ _ _ _ refl,
-                        (
-                          told runs (well-called someZeros) _ _ _ _ _ refl,
-                          (
-                            told runs (well-called someZeros) _ _ _ _ _ refl,
-                            (
-                              told runs (well-called someZeros) _ _ _ _ _ refl,
-                              (
-                                told runs (well-called someZeros) _ _ _ _ _ refl,
-                                (
-                                  told runs (well-called someZeros) _ _ _ _ _ refl,
-                                  (
-                                    told runs (well-called someZeros) _ _ _ _ _ refl,
-                                    (
-                                      told runs (well-called someZeros) _ _ _ _ _ refl,
-                                      (
-                                        told runs (well-called someZeros) _ _ _ _ _ refl,
-                                        (
-                                          told runs (well-called someZeros) _ _ _ _ _ refl,
-                                          (
-                                            told runs (well-called someZeros) _ _ _ _ _ refl,
-                                            tt,
-                                          ),
-                                        ),
-                                      ),
-                                    ),
-                                  ),
-                                ),
-                              ),
-                            ),
-                          ),
-                        ),
-                      ),
-                    ),
-                  ),
-                ),
-              ),
-            ),
-          ),
-        ),
-      ),
-    ),
-  ),
-)
+events-accepted =
+    told fresh well-fresh _ _ _ _ _ refl
+    ▸ told fresh well-fresh _ _ _ _ _ refl
+    ▸ told rests (well-idle someZeros) _ _ _ _ _ refl
+    ▸ told rests (well-idle someZeros) _ _ _ _ _ refl
+    ▸ told rests (well-idle someZeros) _ _ _ _ _ refl
+    ▸ told rests (well-idle someZeros) _ _ _ _ _ refl
+    ▸ told rests (well-idle someZeros) _ _ _ _ _ refl
+    ▸ told rests (well-idle someZeros) _ _ _ _ _ refl
+    ▸ told rests (well-idle someZeros) _ _ _ _ _ refl
+    ▸ told rests (well-idle someZeros) _ _ _ _ _ refl
+    ▸ told runs (well-called someZeros) _ _ _ _ _ refl
+    ▸ told runs (well-called someZeros) _ _ _ _ _ refl
+    ▸ told runs (well-called someZeros) _ _ _ _ _ refl
+    ▸ told runs (well-called someZeros) _ _ _ _ _ refl
+    ▸ told runs (well-called someZeros) _ _ _ _ _ refl
+    ▸ told runs (well-called someZeros) _ _ _ _ _ refl
+    ▸ told runs (well-called someZeros) _ _ _ _ _ refl
+    ▸ told runs (well-called someZeros) _ _ _ _ _ refl
+    ▸ told runs (well-called someZeros) _ _ _ _ _ refl
+    ▸ told runs (well-called someZeros) _ _ _ _ _ refl
+    ▸ told runs (well-called someZeros) _ _ _ _ _ refl
+    ▸ told runs (well-called someZeros) _ _ _ _ _ refl
+    ▸ tt
 
 pub refusals-given : Holds refused
 unfolding refused startOf freshState full table held slotFrom fieldsFrom decide guard ruleIn registerRule registered unregisterRule released callRule callEntry entered returnRule jumpLegacy jumpSecure readRule writeRule extendRule pcrRule slotFor entryOf freeSlot allOpen isRange all-below any-below first-below hasPage inCode
-refusals-given = (
-  unwell zeroState not-zero _ _ _ _,
-  (
-    told rests (well-idle someZeros) _ _ _ _ _ refl,
-    (
-      told runs (well-called someZeros) _ _ _ _ _ refl,
-      (
-        told rests (well-idle someZeros) _ _ _ _ _ refl,
-        (
-          told rests (well-idle someZeros) _ _ _ _ _ refl,
-          (
-            told rests (well-idle someZeros) _ _ _ _ _ refl,
-            (
-              told rests (well-idle someZeros) _ _ _ _ _ refl,
-              (
-                told rests (well-idle someZeros) _ _ _ _ _ refl,
-                (
-                  told rests (well-idle someZeros) _ _ _ _ _ refl,
-                  (
-                    told rests (well-idle someZeros) _ _ _ _ _ refl,
-                    (
-                      told rests (well-idle someZeros) _ _ _ _ _ refl,
-                      (
-                        told runs (well-called someZeros) _ _ _ _ _ refl,
-                        (
-                          told runs (well-called someZeros) _ _ _ _ _ refl,
-                          (
-                            told runs (well-called someZeros) _ _ _ _ _ refl,
-                            (
-                              told runs (well-called someZeros) _ _ _ _ _ refl,
-                              (
-                                told rests (well-idle someZeros) _ _ _ _ _ refl,
-                                (
-                                  told rests (well-idle someZeros) _ _ _ _ _ refl,
-                                  (
-                                    told full well-full _ _ _ _ _ refl,
-                                    (
-                                      told rests (well-idle someZeros) _ _ _ _ _ refl,
-                                      (
-                                        told rests (well-idle someZeros) _ _ _ _ _ refl,
-                                        (
-                                          told rests (well-idle someZeros) _ _ _ _ _ refl,
-                                          (
-                                            told rests (well-idle someZeros) _ _ _ _ _ refl,
-                                            (
-                                              told rests (well-idle someZeros) _ _ _ _ _ refl,
-                                              (
-                                                told rests (well-idle someZeros) _ _ _ _ _ refl,
-                                                (
-                                                  told runs (well-called someZeros) _ _ _ _ _ refl,
-                                                  (
-                                                    told runs (well-called someZeros) _ _ _ _ _ refl,
-                                                    (
-                                                      told runs (well-called someZeros) _ _ _ _ _ refl,
-                                                      tt,
-                                                    ),
-                                                  ),
-                                                ),
-                                              ),
-                                            ),
-                                          ),
-                                        ),
-                                      ),
-                                    ),
-                                  ),
-                                ),
-                              ),
-                            ),
-                          ),
-                        ),
-                      ),
-                    ),
-                  ),
-                ),
-              ),
-            ),
-          ),
-        ),
-      ),
-    ),
-  ),
-)
+refusals-given =
+    unwell zeroState not-zero _ _ _ _
+    ▸ told rests (well-idle someZeros) _ _ _ _ _ refl
+    ▸ told runs (well-called someZeros) _ _ _ _ _ refl
+    ▸ told rests (well-idle someZeros) _ _ _ _ _ refl
+    ▸ told rests (well-idle someZeros) _ _ _ _ _ refl
+    ▸ told rests (well-idle someZeros) _ _ _ _ _ refl
+    ▸ told rests (well-idle someZeros) _ _ _ _ _ refl
+    ▸ told rests (well-idle someZeros) _ _ _ _ _ refl
+    ▸ told rests (well-idle someZeros) _ _ _ _ _ refl
+    ▸ told rests (well-idle someZeros) _ _ _ _ _ refl
+    ▸ told rests (well-idle someZeros) _ _ _ _ _ refl
+    ▸ told runs (well-called someZeros) _ _ _ _ _ refl
+    ▸ told runs (well-called someZeros) _ _ _ _ _ refl
+    ▸ told runs (well-called someZeros) _ _ _ _ _ refl
+    ▸ told runs (well-called someZeros) _ _ _ _ _ refl
+    ▸ told rests (well-idle someZeros) _ _ _ _ _ refl
+    ▸ told rests (well-idle someZeros) _ _ _ _ _ refl
+    ▸ told full well-full _ _ _ _ _ refl
+    ▸ told rests (well-idle someZeros) _ _ _ _ _ refl
+    ▸ told rests (well-idle someZeros) _ _ _ _ _ refl
+    ▸ told rests (well-idle someZeros) _ _ _ _ _ refl
+    ▸ told rests (well-idle someZeros) _ _ _ _ _ refl
+    ▸ told rests (well-idle someZeros) _ _ _ _ _ refl
+    ▸ told rests (well-idle someZeros) _ _ _ _ _ refl
+    ▸ told runs (well-called someZeros) _ _ _ _ _ refl
+    ▸ told runs (well-called someZeros) _ _ _ _ _ refl
+    ▸ told runs (well-called someZeros) _ _ _ _ _ refl
+    ▸ tt

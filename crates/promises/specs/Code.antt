@@ -9,7 +9,7 @@ use mathlib.Core.List.{List, [], _∷_}
 use contract.Lifetimes.{Lfts}
 use denote.Ref.{now}
 use denote.Triple.Entry.{Args, Res}
-use denote.Triple.Clauses.{Ended, Lasts, atExit}
+use denote.Triple.Clauses.{Ended, Lasts, AtExit, atExit}
 use Rattle.state.specs.declared.State.{State}
 use Rattle.rules.specs.Act.{World, Out}
 use Rattle.preserved.specs.Preserved.{Ask}
@@ -30,6 +30,15 @@ pub record Called (w : World) (x : Ask) (o : Out) : Type 0 where
   pub does : code.Reads.Learnt lifetimes arguments result (atExit code.ended lifetimes arguments lasts)
   pub leaves : outOf result (lasts .1 .1 .1 .0) (lasts .1 .1 .1 .1 .0) ≡ o
 
--- a function that asks nothing of its caller; `asked` is its `requires`, as the toolchain has it
-abbrev pub AsksNothing : (T : Ended) → ((κs : Lfts (T .signature .lifetimes)) → Args (T .signature) κs → Type 0) → Type 0
-AsksNothing T asked = (κs : Lfts (T .signature .lifetimes)) (a : Args (T .signature) κs) → asked κs a
+module _ (T : Ended) where
+  -- a function that asks nothing of its caller; `asked` is its `requires`, as the toolchain has it
+  abbrev pub AsksNothing : ((κs : Lfts (T .signature .lifetimes)) → Args (T .signature) κs → Type 0) → Type 0
+  AsksNothing asked = (κs : Lfts (T .signature .lifetimes)) (a : Args (T .signature) κs) → asked κs a
+
+  -- what a contract says of a call, of its arguments a and its result z; `learnt` is its `ensures`, as the toolchain has it
+  abbrev pub Says :
+      ((κs : Lfts (T .signature .lifetimes)) → Args (T .signature) κs → Res (T .signature) κs → AtExit T κs → Type 0)
+      → ((κs : Lfts (T .signature .lifetimes)) → Args (T .signature) κs → Res (T .signature) κs → Type 0) → Type 0
+  Says learnt claim =
+      (κs : Lfts (T .signature .lifetimes)) (a : Args (T .signature) κs) (z : Res (T .signature) κs) (w : Lasts T κs a)
+      → learnt κs a z (atExit T κs a w) → claim κs a z

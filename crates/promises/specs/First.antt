@@ -23,7 +23,7 @@ use Rattle.devicemap.specs.Map.{mapped, bufferAfter}
 use Rattle.devicemap.proofs.device_map as map
 use Rattle.events.specs.declared.Answer.the-variants.{Refused}
 use Rattle.events.specs.Answers.{toldBy}
-use Rattle.rules.specs.Act.{World, Out}
+use Rattle.rules.specs.Act.{World, Out, step}
 use Rattle.kept.specs.Refusals.{AsGiven}
 use Rattle.preserved.specs.Preserved.{Ask}
 use Rattle.monitor.proofs.step as code
@@ -37,10 +37,14 @@ pub record EveryInputAnswered : Type 0 where
   pub read-asks-nothing : AsksNothing read.ended read.Reads.Asked
   pub write-asks-nothing : AsksNothing write.ended write.Reads.Asked
   pub map-asks-nothing : AsksNothing map.ended map.Reads.Asked
+  -- and an answer that the contract allows is always there
+  pub answered : (w : World) (x : Ask) → Called w x (step (w .state) (w .memory) (x .event) (x .payload) (x .buffer))
   -- "Bad input is refused by number": an event's, one of 1 to 10
   pub numbered : (w : World) (x : Ask) (o : Out) → Called w x o → (r : ℕ) → o .answer ≡ Refused r → (1 ≤ r) × (r ≤ 10)
   -- "A refusal gives back the state as it came, and memory and the answer buffer keep their old bytes": of every state with eight slots, as all have
-  pub kept : (w : World) (x : Ask) (o : Out) → Called w x o → length (w .state .slots) ≡ slotCount → toldBy (o .answer) .number ≢ 0 → AsGiven (w .state) (w .memory) (x .buffer) o
+  pub kept :
+      (w : World) (x : Ask) (o : Out) → Called w x o → length (w .state .slots) ≡ slotCount
+      → toldBy (o .answer) .number ≢ 0 → AsGiven (w .state) (w .memory) (x .buffer) o
   -- and so start (4, all zero), the reader (3, all zero), the writer and the device map (the buffer as it came)
   pub start-refuses : Refuses
   pub read-refuses : (l : List ℕ) → readManifest l .refusal ≢ 0 → readManifest l ≡ refusedReading

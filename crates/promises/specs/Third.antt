@@ -56,6 +56,8 @@ pub record KeptApart : Type 0 where
   -- of the rules
   pub rules : Isolation
   -- of the code
-  pub code : (k : ℕ) (w w′ : World) (ts : List Turn) → Shaped (w .state) → Shaped (w′ .state) → Related k w w′ → BothRan w w′ ts → AllFedBy k true w w′ ts → AllApart k true w w′ ts
+  pub code :
+      (k : ℕ) (w w′ : World) (ts : List Turn) → Shaped (w .state) → Shaped (w′ .state)
+      → Related k w w′ → BothRan w w′ ts → AllFedBy k true w w′ ts → AllApart k true w w′ ts
   -- and it is no empty promise: two such worlds go through a life in which every event is accepted
   pub alive : TwoWorlds
