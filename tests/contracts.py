@@ -1,8 +1,8 @@
 """Holds every public function of crates/ to document 01's "No public function lacks a contract on what it returns".
 
 - A function that returns something, or takes a `&mut`, has an `ensures`.
-- A function that has a `requires` stands in docs/PROMISES.md, "What inner functions ask", and every function that stands there has one:
-  an entry point refuses bad input and asks nothing.
+- A function that has a `requires` stands in docs/PROMISES.md, "What inner functions ask", and every function that stands there has one. An entry point,
+  which is any function of the crates ENTRY, refuses bad input and asks nothing.
 - A function of a library that is no promise (`fn laws() ensures ..`) has its theorem of one outcome in the specs of crate unique; where that is of a part of the
   outcome only, the function stands in docs/PROMISES.md, "Exceptions to one outcome".
 """
@@ -12,6 +12,7 @@ import sys
 
 ROOT = pathlib.Path(__file__).resolve().parent.parent
 HEAD = re.compile(r'\bpub\s+(?:extern\s+"C"\s+)?fn\s+(\w+)')
+ENTRY = {"start", "monitor", "manifest", "devicemap", "sha1", "sha1_c", "switch", "wellformed", "wellformed_c", "twin", "host"}
 IMPL = re.compile(r"^impl\s+(\w+)", re.M)
 
 
@@ -75,6 +76,8 @@ def main():
                 faults.append(f"{where}: no `ensures`")
             if "requires" in clauses:
                 asking.add(f"{crate}::{name}")
+                if crate in ENTRY:
+                    faults.append(f"{where}: an entry point with a `requires`")
             module = "" if path.stem in ("lib", "main") else path.stem + "."
             place = f"Rattle.{crate}.proofs.{module}{owner + '.' if owner else ''}{name}"
             proved = theorem(place, unique)
