@@ -32,25 +32,13 @@ use Rattle.rules.specs.Act.{World, Out, extended, act, step}
 use Rattle.rules.specs.Isolation.{Related, Feed, first, second, world, Payloads, equal, hidden, mine, stays, Fed, AllFed}
 use Rattle.alive.specs.States.{fresh, fieldsFrom, slotFrom, held, idle, called}
 use Rattle.alive.specs.Trace.{worldOf, four, letters, feed, trace, Heard, heardBy, hear, heard, TwoWorlds}
-use Rattle.alive.proofs.Wells.{well-fresh, well-idle, well-called}
+use Rattle.alive.proofs.Wells.{fresh-at, idle-at, called-at}
 
 stepped : (s : State) (m : List ℕ) (e : Event) (payload buffer : List ℕ) (o : Out) → wellFormed s (length m) ≡ true
     → act (decide (faceOf s) true (length buffer) (length payload) (readManifest payload) e) payload buffer (pcrsOf s) m ≡ o → step s m e payload buffer ≡ o
 unfolding step
 stepped s m e payload buffer o w h =
     ap (λ (t : Bool). act (decide (faceOf s) t (length buffer) (length payload) (readManifest payload) e) payload buffer (pcrsOf s) m) w ∙ h
-
-idle-at : (pcrs : List Digest) (m : List ℕ) → length m ≡ 32768 → wellFormed (idle pcrs) (length m) ≡ true
-unfolding held
-idle-at pcrs m n = rw n (well-idle pcrs)
-
-called-at : (pcrs : List Digest) (m : List ℕ) → length m ≡ 32768 → wellFormed (called pcrs) (length m) ≡ true
-unfolding held
-called-at pcrs m n = rw n (well-called pcrs)
-
-fresh-at : (m : List ℕ) → length m ≡ 32768 → wellFormed fresh (length m) ≡ true
-unfolding startOf freshState
-fresh-at m n = rw n well-fresh
 
 -- ---- the seven steps of one run, with bytes a, b and c of its own
 

@@ -1,9 +1,10 @@
 -- The states are well formed, computed once each.
-use Prim.Native.Nat.{_*_}
+use Prim.Native.Nat.{ℕ, _*_}
 use native.Mathlib.Omega.{arith}
 use mathlib.Core.Path.{_≡_, refl}
 use mathlib.Core.Bool.{true, false}
 use mathlib.Core.List.{List}
+use lib.ListN.{length}
 use Rattle.lists.specs.Below.{all-below, any-below, first-below, sum-below, table}
 use Rattle.geometry.specs.Geometry.{pageSize, isRange}
 use Rattle.sha1.specs.declared.Digest.{Digest}
@@ -39,3 +40,16 @@ well-full = refl
 pub not-zero : wellFormed zeroState (zeroState .pages * pageSize) ≡ false
 unfolding wellFormed stateRight faceRight
 not-zero = refl
+
+-- with memory of eight pages
+pub idle-at : (pcrs : List Digest) (m : List ℕ) → length m ≡ 32768 → wellFormed (idle pcrs) (length m) ≡ true
+unfolding held
+idle-at pcrs m n = rw n (well-idle pcrs)
+
+pub called-at : (pcrs : List Digest) (m : List ℕ) → length m ≡ 32768 → wellFormed (called pcrs) (length m) ≡ true
+unfolding held
+called-at pcrs m n = rw n (well-called pcrs)
+
+pub fresh-at : (m : List ℕ) → length m ≡ 32768 → wellFormed fresh (length m) ≡ true
+unfolding startOf freshState
+fresh-at m n = rw n well-fresh

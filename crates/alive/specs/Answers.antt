@@ -5,7 +5,6 @@ use Rattle.geometry.specs.Geometry.{pageSize}
 use Rattle.memory.specs.declared.Source.the-variants.{Payload, Memory}
 use Rattle.manifest.specs.declared.Reading.{Reading}
 use Rattle.manifest.specs.Reader.{readManifest}
-use Rattle.round.specs.Examples.{long}
 use Rattle.state.specs.declared.State.{State}
 use Rattle.state.specs.Zero.{zeroState}
 use Rattle.events.specs.declared.Event.{Event}
@@ -14,7 +13,7 @@ use Rattle.events.specs.declared.Answer.{Answer}
 use Rattle.events.specs.declared.Answer.the-variants.{Done, Slot, Entered, Left, Terminated, Filled, Refused}
 use Rattle.alive.specs.Rows.{answered, Row}
 use Rattle.alive.specs.States.{fresh, fieldsFrom, idle, called, someZeros, full}
-use Rattle.alive.specs.Examples.{unread}
+use Rattle.alive.specs.Examples.{long, unread}
 
 -- a manifest that names page p for code and the next for param
 abbrev pub manifestFrom : ℕ → Reading

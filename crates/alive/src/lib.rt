@@ -1,9 +1,8 @@
 // No code: what the rules give, computed, each table a promise. A monitor that refuses all would keep every other theorem.
 ghost use mathlib.Core.Path.{_≡_};
 ghost use mathlib.Core.Bool.{true};
-ghost use Rattle.round.specs.Examples.{allRight};
 ghost use Rattle.alive.specs.Rows.{Holds};
-ghost use Rattle.alive.specs.Examples.{examples};
+ghost use Rattle.alive.specs.Examples.{allRight, examples};
 ghost use Rattle.alive.specs.Answers.{accepted, refused};
 ghost use Rattle.alive.specs.Trace.{TwoWorlds};
 

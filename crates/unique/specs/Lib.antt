@@ -1,1 +1,5 @@
-pub mod Unique
+pub mod One
+pub mod Parts
+pub mod Events
+pub mod Lines
+pub mod Board

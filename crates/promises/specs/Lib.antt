@@ -1,0 +1,4 @@
+pub mod Code
+pub mod First
+pub mod Second
+pub mod Third

@@ -1,0 +1,75 @@
+-- One outcome for each input: the eleven events and the running record.
+use Rattle.switch.proofs.enter as switch-enter
+use Rattle.switch.proofs.leave as switch-leave
+use Rattle.switch.proofs.entering as switch-entering
+use Rattle.switch.proofs.leaving as switch-leaving
+use Rattle.touch.proofs.pages.is_open as touch-is-open
+use Rattle.touch.proofs.pages.is_own as touch-is-own
+use Rattle.touch.proofs.pages.in_code_of as touch-in-code-of
+use Rattle.touch.proofs.pages.may_read as touch-may-read
+use Rattle.touch.proofs.pages.may_write as touch-may-write
+use Rattle.touch.proofs.pages.device_may as touch-device-may
+use Rattle.touch.proofs.pcr_read.pcr_read as touch-pcr-read
+use Rattle.touch.proofs.read.read as touch-read
+use Rattle.touch.proofs.read.device_read as touch-device-read
+use Rattle.touch.proofs.write.write as touch-write
+use Rattle.touch.proofs.write.device_write as touch-device-write
+use Rattle.release.proofs.jump.jump as release-jump
+use Rattle.release.proofs.release.left as release-left
+use Rattle.release.proofs.release.release as release-release
+use Rattle.release.proofs.unregister.unregister as release-unregister
+use Rattle.call.proofs.call.call as call-call
+use Rattle.call.proofs.places.slot_for as call-slot-for
+use Rattle.call.proofs.places.param_of as call-param-of
+use Rattle.call.proofs.places.param_start as call-param-start
+use Rattle.call.proofs.places.kept_as as call-kept-as
+use Rattle.call.proofs.return_.return_ as call-return
+use Rattle.enroll.proofs.free.all_open as enroll-all-open
+use Rattle.enroll.proofs.free.free_slot as enroll-free-slot
+use Rattle.enroll.proofs.measure.measured as enroll-measured
+use Rattle.enroll.proofs.register.register as enroll-register
+use Rattle.extend.proofs.extend.extend as extend-extend
+use Rattle.monitor.proofs.step as monitor-step
+use borrow.Fn.World.{w₀}
+use borrow.Fn.Read.{r-last}
+use Rattle.unique.specs.One.{Says, OneOutcome, told}
+
+-- A contract over a lent struct is proved by hand, and the toolchain makes no reading of it: its own clause, by the toolchain's rule for a plain fact.
+abbrev pub switch-enter-says : Says switch-enter.ended
+switch-enter-says κs a z e = told (switch-enter.clauses (w₀ .𝓤) (w₀ .H) (w₀ .𝓖 .A) (w₀ .𝓜 .mem) (w₀ .𝓡 .run) κs a .ensures tt z e) (r-last _)
+
+abbrev pub switch-leave-says : Says switch-leave.ended
+switch-leave-says κs a z e = told (switch-leave.clauses (w₀ .𝓤) (w₀ .H) (w₀ .𝓖 .A) (w₀ .𝓜 .mem) (w₀ .𝓡 .run) κs a .ensures tt z e) (r-last _)
+
+pub record Events : Type 0 where
+  pub switch-enter-one : OneOutcome switch-enter.ended switch-enter-says
+  pub switch-leave-one : OneOutcome switch-leave.ended switch-leave-says
+  pub switch-entering-one : OneOutcome switch-entering.ended switch-entering.Reads.Learnt
+  pub switch-leaving-one : OneOutcome switch-leaving.ended switch-leaving.Reads.Learnt
+  pub touch-is-open-one : OneOutcome touch-is-open.ended touch-is-open.Reads.Learnt
+  pub touch-is-own-one : OneOutcome touch-is-own.ended touch-is-own.Reads.Learnt
+  pub touch-in-code-of-one : OneOutcome touch-in-code-of.ended touch-in-code-of.Reads.Learnt
+  pub touch-may-read-one : OneOutcome touch-may-read.ended touch-may-read.Reads.Learnt
+  pub touch-may-write-one : OneOutcome touch-may-write.ended touch-may-write.Reads.Learnt
+  pub touch-device-may-one : OneOutcome touch-device-may.ended touch-device-may.Reads.Learnt
+  pub touch-pcr-read-one : OneOutcome touch-pcr-read.ended touch-pcr-read.Reads.Learnt
+  pub touch-read-one : OneOutcome touch-read.ended touch-read.Reads.Learnt
+  pub touch-device-read-one : OneOutcome touch-device-read.ended touch-device-read.Reads.Learnt
+  pub touch-write-one : OneOutcome touch-write.ended touch-write.Reads.Learnt
+  pub touch-device-write-one : OneOutcome touch-device-write.ended touch-device-write.Reads.Learnt
+  pub release-jump-one : OneOutcome release-jump.ended release-jump.Reads.Learnt
+  pub release-left-one : OneOutcome release-left.ended release-left.Reads.Learnt
+  pub release-release-one : OneOutcome release-release.ended release-release.Reads.Learnt
+  pub release-unregister-one : OneOutcome release-unregister.ended release-unregister.Reads.Learnt
+  pub call-call-one : OneOutcome call-call.ended call-call.Reads.Learnt
+  pub call-slot-for-one : OneOutcome call-slot-for.ended call-slot-for.Reads.Learnt
+  pub call-param-of-one : OneOutcome call-param-of.ended call-param-of.Reads.Learnt
+  pub call-param-start-one : OneOutcome call-param-start.ended call-param-start.Reads.Learnt
+  pub call-kept-as-one : OneOutcome call-kept-as.ended call-kept-as.Reads.Learnt
+  pub call-return-one : OneOutcome call-return.ended call-return.Reads.Learnt
+  pub enroll-all-open-one : OneOutcome enroll-all-open.ended enroll-all-open.Reads.Learnt
+  pub enroll-free-slot-one : OneOutcome enroll-free-slot.ended enroll-free-slot.Reads.Learnt
+  pub enroll-measured-one : OneOutcome enroll-measured.ended enroll-measured.Reads.Learnt
+  pub enroll-register-one : OneOutcome enroll-register.ended enroll-register.Reads.Learnt
+  pub extend-extend-one : OneOutcome extend-extend.ended extend-extend.Reads.Learnt
+  pub monitor-step-one : OneOutcome monitor-step.ended monitor-step.Reads.Learnt
