@@ -1,7 +1,4 @@
 // The manifest's round trips. Each function pins one theorem about the definitions: without its proof this crate is not proved.
-ghost use mathlib.Core.Path.{_≡_};
-ghost use mathlib.Core.Bool.{true};
-ghost use Rattle.round.specs.Examples.{allRight, manifestExamples};
 ghost use Rattle.round.specs.Round.{ReadThenWritten, WrittenThenRead, AcceptsExactly, OneSpelling, Lengths};
 
 // An accepted manifest, read and written again, gives the same bytes.
@@ -27,9 +24,4 @@ pub fn one_spelling()
 // Lengths are 8(r+e)+16, 40 to 112.
 pub fn lengths()
     ensures { λ _. ⌜ Lengths ⌝ }
-{}
-
-// E1 to E6.
-pub fn examples()
-    ensures { λ _. ⌜ allRight manifestExamples ≡ true ⌝ }
 {}
