@@ -1,43 +1,48 @@
-// The well-formedness test in plain C, by the algorithm of crates/wellformed: each slot read once, the owner table painted and compared.
+// The well-formedness test in plain C, by the algorithm of crates/wellformed: one loop reads each slot and paints what it says, then the table is compared with the owner table.
 #include <string.h>
 #include "wellformed.h"
+
+static bool in_code(const struct fields *f, size_t page)
+{
+    for (size_t i = 0; i < f->r; i++) {
+        const struct run *x = &f->runs[i];
+        if (x->kind == 1 && x->first <= page && page < (size_t)x->first + x->count)
+            return true;
+    }
+    return false;
+}
 
 static bool keeps(const struct fields *f)
 {
     if (f->r < 2 || f->r > 4 || f->e < 1 || f->e > 8)
         return false;
     bool ok = true;
-    size_t pages = 0, params = 0, param_pages = 0, codes = 0;
+    size_t end = 0, held = 0, codes = 0, params = 0, param_pages = 0;
     for (size_t i = 0; i < f->r; i++) {
         const struct run *x = &f->runs[i];
-        size_t end = (size_t)x->first + x->count;
-        ok &= x->kind >= 1 && x->kind <= 4 && x->count >= 1 && end <= PAGES;
-        if (i + 1 < f->r)
-            ok &= end <= f->runs[i + 1].first;
-        pages += x->count;
+        ok &= x->kind >= 1 && x->kind <= 4 && x->count >= 1 && end <= x->first;
+        end = (size_t)x->first + x->count;
+        ok &= end <= PAGES;
+        held += x->count;
         codes += x->kind == 1;
         params += x->kind == 4;
         param_pages += x->kind == 4 ? x->count : 0;
     }
-    ok &= pages <= 64 && codes >= 1 && params == 1 && param_pages == 1;
+    if (!ok || held > 64 || codes == 0 || params != 1 || param_pages != 1)
+        return false;
+    size_t least = 0;
     for (size_t i = 0; i < f->e; i++) {
         const struct entry *x = &f->entries[i];
-        size_t page = x->address / 4096;
-        bool inside = false;
-        for (size_t k = 0; k < f->r; k++) {
-            const struct run *y = &f->runs[k];
-            inside |= y->kind == 1 && y->first <= page && page < (size_t)y->first + y->count;
-        }
-        ok &= inside && x->input <= 2048 && x->output <= 2048;
-        if (i + 1 < f->e)
-            ok &= x->address < f->entries[i + 1].address;
+        if (x->input > 2048 || x->output > 2048 || x->address < least || !in_code(f, x->address / 4096))
+            return false;
+        least = (size_t)x->address + 1;
     }
     uint32_t bits = 0;
     for (size_t i = f->r; i < 4; i++)
         bits |= f->runs[i].kind | f->runs[i].count | f->runs[i].first;
     for (size_t i = f->e; i < 8; i++)
         bits |= f->entries[i].address | f->entries[i].input | f->entries[i].output;
-    return ok & (bits == 0);
+    return bits == 0;
 }
 
 static bool slot_right(const struct slot *x, size_t top)
@@ -46,27 +51,29 @@ static bool slot_right(const struct slot *x, size_t top)
     if (x->card.registered) {
         if (!keeps(f))
             return false;
-        bool ok = true;
-        for (size_t i = 0; i < f->r; i++)
-            ok &= (size_t)f->runs[i].first + f->runs[i].count <= top;
-        return ok;
+        const struct run *last = &f->runs[f->r - 1];
+        return (size_t)last->first + last->count <= top;
     }
     uint32_t bits = 0;
     for (size_t i = 0; i < 4; i++)
         bits |= f->runs[i].kind | f->runs[i].count | f->runs[i].first;
     for (size_t i = 0; i < 8; i++)
         bits |= f->entries[i].address | f->entries[i].input | f->entries[i].output;
-    for (size_t j = 0; j < 8; j++)
-        for (size_t i = 0; i < 20; i++)
-            bits |= x->pcrs[j].bytes[i];
-    return x->card.mark == 0 && f->r == 0 && f->e == 0 && bits == 0;
+    const uint8_t *pcrs = (const uint8_t *)x->pcrs;
+    uint8_t bytes = 0;
+    for (size_t i = 0; i < sizeof x->pcrs; i++)
+        bytes |= pcrs[i];
+    return x->card.mark == 0 && f->r == 0 && f->e == 0 && bits == 0 && bytes == 0;
 }
 
-static bool pages_right(const struct state *s)
+static bool slots_right(const struct state *s)
 {
     uint8_t table[PAGES] = {0}, bad = 0;
-    memset(table + (s->pages - s->kept), 255, s->kept);
+    size_t top = s->pages - s->kept;
+    memset(table + top, 255, s->kept);
     for (size_t k = 0; k < 8; k++) {
+        if (!slot_right(&s->slots[k], top))
+            return false;
         const struct fields *f = &s->slots[k].card.fields;
         for (size_t i = 0; i < f->r; i++)
             for (size_t p = 0; p < f->runs[i].count; p++)
@@ -74,9 +81,7 @@ static bool pages_right(const struct state *s)
         for (size_t i = 0; i < f->r; i++)
             memset(table + f->runs[i].first, k + 1, f->runs[i].count);
     }
-    for (size_t p = 0; p < PAGES; p++)
-        bad |= table[p] ^ s->owner[p];
-    return bad == 0;
+    return bad == 0 && memcmp(table, s->owner, PAGES) == 0;
 }
 
 static bool mode_right(const struct state *s)
@@ -102,8 +107,5 @@ bool plain_well_formed(struct state s, size_t length)
 {
     if (s.pages < 2 || s.pages > PAGES || s.kept < 1 || s.kept >= s.pages)
         return false;
-    bool ok = true;
-    for (size_t k = 0; k < 8; k++)
-        ok &= slot_right(&s.slots[k], s.pages - s.kept);
-    return ok && pages_right(&s) && mode_right(&s) && length == s.pages * 4096;
+    return slots_right(&s) && mode_right(&s) && length == s.pages * 4096;
 }

@@ -1,5 +1,5 @@
-// Times the two well-formedness tests: `time WHICH STATE` prints ns a call, `run WHICH STATE N` makes N calls.
-// WHICH is ours or plain; STATE is fresh8, fresh1024, full8 or full1024.
+// Times the two well-formedness tests: `time STATE` prints the best ns a call of ours and of the plain one, their rounds taken in turn;
+// `run STATE WHICH N` makes N calls. WHICH is ours or plain; STATE is fresh8, fresh1024, full8 or full1024.
 #include <stdio.h>
 #include <stdlib.h>
 #include <string.h>
@@ -42,36 +42,51 @@ static void build(struct state *s, const char *name)
             pages == 8 ? slot(s, k, 2 * k, 2, 2) : slot(s, k, 64 * k, 4, 64);
 }
 
+typedef bool test_fn(struct state, size_t);
+
+static bool answers_right(test_fn *test, struct state *s, size_t length)
+{
+    bool right = test(*s, length) && !test(*s, length + 1);
+    s->owner[1023] ^= 1;
+    right &= !test(*s, length);
+    s->owner[1023] ^= 1;
+    return right;
+}
+
+static double round_of(test_fn *test, const struct state *s, size_t length, size_t n)
+{
+    struct timespec a, b;
+    size_t right = 0;
+    clock_gettime(CLOCK_MONOTONIC, &a);
+    for (size_t i = 0; i < n; i++)
+        right += test(*s, length);
+    clock_gettime(CLOCK_MONOTONIC, &b);
+    return right == n ? ((b.tv_sec - a.tv_sec) * 1e9 + (b.tv_nsec - a.tv_nsec)) / n : 1e18;
+}
+
 int main(int argc, char **argv)
 {
     static struct state s;
-    if (argc < 4)
+    static test_fn *const tests[2] = {guddaroox_well_formed, plain_well_formed};
+    if (argc < 3)
         return 2;
-    bool (*test)(struct state, size_t) = strcmp(argv[2], "ours") == 0 ? guddaroox_well_formed : plain_well_formed;
-    build(&s, argv[3]);
+    bool time = strcmp(argv[1], "time") == 0;
+    build(&s, argv[2]);
     size_t length = s.pages * 4096;
-    if (!test(s, length) || test(s, length + 1)) {
+    if (!answers_right(tests[0], &s, length) || !answers_right(tests[1], &s, length)) {
         fprintf(stderr, "wrong answer\n");
         return 1;
     }
-    s.owner[1023] ^= 1;
-    if (test(s, length)) {
-        fprintf(stderr, "wrong answer\n");
-        return 1;
+    if (!time) {
+        round_of(tests[argc > 3 && strcmp(argv[3], "plain") == 0], &s, length, argc > 4 ? strtoul(argv[4], NULL, 10) : 1);
+        return 0;
     }
-    s.owner[1023] ^= 1;
-    size_t n = argc > 4 ? strtoul(argv[4], NULL, 10) : 20000, right = 0;
-    struct timespec a, b;
-    double best = 1e18;
-    for (int round = 0; round < (argc > 4 ? 1 : 7); round++) {
-        clock_gettime(CLOCK_MONOTONIC, &a);
-        for (size_t i = 0; i < n; i++)
-            right += test(s, length);
-        clock_gettime(CLOCK_MONOTONIC, &b);
-        double ns = ((b.tv_sec - a.tv_sec) * 1e9 + (b.tv_nsec - a.tv_nsec)) / n;
-        best = ns < best ? ns : best;
+    double best[2] = {1e18, 1e18};
+    for (int round = 0; round < 2000; round++) {
+        double ns = round_of(tests[round % 2], &s, length, 500);
+        if (ns < best[round % 2])
+            best[round % 2] = ns;
     }
-    if (argc <= 4)
-        printf("%.1f\n", best);
-    return right == 0;
+    printf("%.1f %.1f\n", best[0], best[1]);
+    return 0;
 }

@@ -22,7 +22,7 @@ $gcc -O3 -static bench/wellformed.c bench/plain_wellformed.c target/staticlib/li
 
 instructions() { # WHICH STATE: of one more call
     for n in 1 2; do
-        $run -one-insn-per-tb -d nochain,exec -D "$out/trace" "$out/wellformed" run "$1" "$2" "$n"
+        $run -one-insn-per-tb -d nochain,exec -D "$out/trace" "$out/wellformed" run "$2" "$1" "$n"
         grep -c '^Trace' "$out/trace" >"$out/count.$n"
     done
     rm "$out/trace"
@@ -32,8 +32,7 @@ instructions() { # WHICH STATE: of one more call
 echo '| state | ours, ns | plain C, ns | ratio |'"${count:+ ours, instructions | plain C, instructions | ratio |}"
 echo '|---|---|---|---|'"${count:+---|---|---|}"
 for state in fresh8 full8 fresh1024 full1024; do
-    a=$($run "$out/wellformed" time ours "$state")
-    b=$($run "$out/wellformed" time plain "$state")
+    read -r a b < <($run "$out/wellformed" time "$state")
     line="| $state | $a | $b | $(awk "BEGIN { printf \"%.2f\", $a / $b }") |"
     if [ -n "$count" ]; then
         c=$(instructions ours "$state")

@@ -7,7 +7,7 @@ ghost use Prim.Native.Nat.{_≤_, _<_};
 ghost use lib.Dec.{leb, eqb};
 ghost use Rattle.lists.specs.Below.{pick, all-below};
 ghost use Rattle.fields.specs.Fields.{fieldsOf, endOf};
-ghost use Rattle.fields.specs.Rules.{countsRight, isParam, runRight, runsRight, isCode, holds, inCode, lengthsRight, entriesRight, runZero, entryZero, runFreeAt, entryFreeAt, keepsRules};
+ghost use Rattle.fields.specs.Rules.{countsRight, isParam, runRight, runsRight, isCode, holds, inCode, lengthsRight, entriesRight, runFreeAt, entryFreeAt, keepsRules};
 use fields::Entry;
 use fields::Fields;
 use fields::Run;
@@ -90,10 +90,14 @@ fn code_holds(x: Run, page: usize) -> bool
     (x.kind == 1) & ((x.first as usize <= page) & (page < end))
 }
 
-pub fn in_code(r: usize, runs: [Run; 4], page: usize) -> bool
+// Whether ok holds and the page is in a code run: the one search of the two below, which goes no further than the run that has the page.
+fn code_if(ok: bool, r: usize, runs: [Run; 4], page: usize) -> bool
     requires { ⌜ r ≤ 4 ⌝ }
-    ensures { λ b. ⌜ b ≡ inCode (fieldsOf r 0 runs []) page ⌝ }
+    ensures { λ b. ⌜ b ≡ ok && inCode (fieldsOf r 0 runs []) page ⌝ }
 {
+    if !ok {
+        return false;
+    }
     let mut i: usize = 0;
     while i < r {
         let x = runs[i];
@@ -103,6 +107,13 @@ pub fn in_code(r: usize, runs: [Run; 4], page: usize) -> bool
         i += 1;
     }
     false
+}
+
+pub fn in_code(r: usize, runs: [Run; 4], page: usize) -> bool
+    requires { ⌜ r ≤ 4 ⌝ }
+    ensures { λ b. ⌜ b ≡ inCode (fieldsOf r 0 runs []) page ⌝ }
+{
+    code_if(true, r, runs, page)
 }
 
 pub fn lengths_right(x: Entry) -> bool
@@ -116,62 +127,56 @@ fn entries_right(r: usize, e: usize, runs: [Run; 4], entries: [Entry; 8]) -> boo
     requires { ⌜ (r ≤ 4) × (e ≤ 8) ⌝ }
     ensures { λ b. ⌜ b ≡ entriesRight (fieldsOf r e runs entries) ⌝ }
 {
-    let mut each = true;
-    let mut rise = true;
     let mut least: usize = 0;
     let mut i: usize = 0;
     while i < e {
         let x = entries[i];
         let at = x.address as usize;
-        let inside = in_code(r, runs, Geometry::page_of(at));
         let lengths = lengths_right(x);
-        each = each & (inside & lengths);
-        rise = rise & (least <= at);
+        if !code_if(lengths & (least <= at), r, runs, Geometry::page_of(at)) {
+            return false;
+        }
         least = at + 1;
         i += 1;
     }
-    each & rise
+    true
 }
 
-// ---- unused places: a number that is 0 where every field of the place is
-pub fn run_bits(x: Run) -> u32
-    ensures { λ b. ⌜ eqb b 0 ≡ runZero x ⌝ }
-{
-    x.kind as u32 | (x.count as u32 | x.first)
-}
-
-pub fn entry_bits(x: Entry) -> u32
-    ensures { λ b. ⌜ eqb b 0 ≡ entryZero x ⌝ }
-{
-    x.address | (x.input as u32 | x.output as u32)
-}
-
-fn runs_unused(r: usize, runs: [Run; 4]) -> bool
+// ---- unused places: each field by itself, so that a compiler takes the places as whole words
+pub fn runs_unused(r: usize, runs: [Run; 4]) -> bool
     requires { ⌜ r ≤ 4 ⌝ }
     ensures { λ b. ⌜ b ≡ all-below 4 (runFreeAt (fieldsOf r 0 runs [])) ⌝ }
 {
-    let mut bits: u32 = 0;
+    let mut kind: u8 = 0;
+    let mut count: u16 = 0;
+    let mut first: u32 = 0;
     let mut i = r;
     while i < 4 {
         let x = runs[i];
-        bits = bits | run_bits(x);
+        kind = kind | x.kind;
+        count = count | x.count;
+        first = first | x.first;
         i += 1;
     }
-    bits == 0
+    (kind == 0) & ((count == 0) & (first == 0))
 }
 
-fn entries_unused(e: usize, entries: [Entry; 8]) -> bool
+pub fn entries_unused(e: usize, entries: [Entry; 8]) -> bool
     requires { ⌜ e ≤ 8 ⌝ }
     ensures { λ b. ⌜ b ≡ all-below 8 (entryFreeAt (fieldsOf 0 e [] entries)) ⌝ }
 {
-    let mut bits: u32 = 0;
+    let mut address: u32 = 0;
+    let mut input: u16 = 0;
+    let mut output: u16 = 0;
     let mut i = e;
     while i < 8 {
         let x = entries[i];
-        bits = bits | entry_bits(x);
+        address = address | x.address;
+        input = input | x.input;
+        output = output | x.output;
         i += 1;
     }
-    bits == 0
+    (address == 0) & ((input == 0) & (output == 0))
 }
 
 // ---- every rule

@@ -8,10 +8,10 @@ use mathlib.Core.List.{List, []}
 use mathlib.Core.Logic.{⊎-elim}
 use lib.ListN.{getD}
 use lib.Dec.{leb, eqb, ltb}
-use borrow.Author.Tests.{eqb-true, ltb-true, leb-true, le-leb}
+use borrow.Author.Tests.{eqb-true, ltb-true, leb-true, le-leb, le-ltb}
 use Rattle.lists.specs.Below.{all-below, any-below}
 use Rattle.lists.proofs.Logic.{and-l, and-r, both, iff, decided, lt-or-ge}
-use Rattle.lists.proofs.All.{all-at, all-of}
+use Rattle.lists.proofs.All.{all-at, all-of, all-same}
 use Rattle.geometry.specs.Geometry.{slotCount, mostPages}
 use Rattle.sha1.specs.declared.Digest.{Digest}
 use Rattle.fields.specs.declared.Fields.{Fields}
@@ -76,6 +76,10 @@ module _ (s : State) where
   state-parts =
       shuffle (sizesRight (s .pages) (s .kept)) (all-below slotCount (cardRightAt (faceOf s))) (all-below mostPages (heldOnce (faceOf s))) (all-below mostPages (ownerRightAt (faceOf s))) (modeRight (faceOf s) (s .mode)) (pcrsRight (faceOf s) (pcrsOf s))
       ∙ ap (λ (t : Bool). sizesRight (s .pages) (s .kept) && (t && rest)) (sym slots-same)
+
+-- where no place is in use, every place is unused
+pub all-unused : (z : ℕ → Bool) (n : ℕ) → all-below n (λ k. ltb k 0 || z k) ≡ all-below n z
+all-unused z n = all-same n (λ k. ltb k 0 || z k) z (λ i l. rw (le-ltb i 0 (omega arith)))
 
 -- a slot's test by its case
 pub slot-used : (x : Slot) (top : ℕ) (r : Bool) → x .card .registered ≡ true → r ≡ keepsRules (x .card .fields) && pagesUnder (x .card .fields) top → r ≡ slotRight x top

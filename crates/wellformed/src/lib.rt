@@ -7,10 +7,10 @@ ghost use Prim.Native.Nat.{_≤_};
 ghost use lib.Dec.{eqb};
 ghost use Rattle.lists.specs.Below.{all-below, any-below};
 ghost use Rattle.geometry.specs.Geometry.{mostPages, digestSize};
-ghost use Rattle.fields.specs.Fields.{fieldsOf, runPlaces, entryPlaces};
+ghost use Rattle.fields.specs.Fields.{fieldsOf, entryPlaces};
 ghost use Rattle.fields.specs.Rules.{keepsRules};
 ghost use Rattle.fields.specs.Pages.{pagesUnder};
-ghost use Rattle.wellformed.specs.WellFormed.{sizesRight, fieldsZero, runZeroAt, entryZeroAt, byteZeroAt, pcrsZero, runningZero, outputAt, stateRight, wellFormed};
+ghost use Rattle.wellformed.specs.WellFormed.{sizesRight, fieldsZero, byteZeroAt, pcrsZero, runningZero, outputAt, stateRight, wellFormed};
 ghost use Rattle.wellformed.specs.Tests.{slotRight, outTest, runningTest, modeTest};
 use fields::Entry;
 use fields::Run;
@@ -28,33 +28,7 @@ pub fn sizes_right(p: usize, m: usize) -> bool
     ((Geometry::LEAST_PAGES <= p) & (p <= Geometry::MOST_PAGES)) & ((1 <= m) & (m < p))
 }
 
-// ---- free slots: zero where every byte is
-fn runs_bits(runs: [Run; 4]) -> u32
-    ensures { λ r. ⌜ eqb r 0 ≡ all-below runPlaces (runZeroAt (fieldsOf 0 0 runs [])) ⌝ }
-{
-    let mut bits: u32 = 0;
-    let mut i: usize = 0;
-    while i < 4 {
-        let x = runs[i];
-        bits = bits | keeps::run_bits(x);
-        i += 1;
-    }
-    bits
-}
-
-fn entries_bits(entries: [Entry; 8]) -> u32
-    ensures { λ r. ⌜ eqb r 0 ≡ all-below entryPlaces (entryZeroAt (fieldsOf 0 0 [] entries)) ⌝ }
-{
-    let mut bits: u32 = 0;
-    let mut i: usize = 0;
-    while i < 8 {
-        let x = entries[i];
-        bits = bits | keeps::entry_bits(x);
-        i += 1;
-    }
-    bits
-}
-
+// ---- free slots: every place is unused, every byte zero
 fn pcr_bits(x: Digest) -> u8
     ensures { λ r. ⌜ eqb r 0 ≡ all-below digestSize (byteZeroAt x) ⌝ }
 {
@@ -90,10 +64,10 @@ fn free_right(
 ) -> bool
     ensures { λ b. ⌜ b ≡ (eqb mark 0 && fieldsZero (fieldsOf r e runs entries)) && pcrsZero pcrs ⌝ }
 {
-    let a = runs_bits(runs);
-    let b = entries_bits(entries);
+    let a = keeps::runs_unused(0, runs);
+    let b = keeps::entries_unused(0, entries);
     let c = pcrs_bits(pcrs);
-    ((mark == 0) & (((r == 0) & (e == 0)) & ((a == 0) & (b == 0)))) & (c == 0)
+    ((mark == 0) & (((r == 0) & (e == 0)) & (a & b))) & (c == 0)
 }
 
 // ---- registered slots
