@@ -16,8 +16,8 @@ use Rattle.rules.specs.Act.{Out}
 use Rattle.numerals.specs.Place.{isAt}
 use Rattle.numerals.proofs.Places.{place-before}
 use Rattle.lines.specs.declared.Line.{Line}
-use Rattle.lines.specs.Grammar.{isReadable, payloadOf, lineOf}
-use Rattle.gather.specs.Lines.{newline, endedLines, openLine, lastLine, linesOf, lineEnd, longestLine, mostKept, clipped}
+use Rattle.lines.specs.Grammar.{longestLine, isReadable, payloadOf, lineOf}
+use Rattle.gather.specs.Lines.{newline, endedLines, openLine, lastLine, linesOf, lineEnd, mostKept, clipped}
 use Rattle.gather.proofs.Laws.{ended-newline, ended-other, open-newline, open-other, ended-cut, open-cut, none-ended, none-open, first-line, first-open, no-line, clip-few, clip-many}
 use Rattle.answers.specs.Text.{longestText, textOf}
 use Rattle.answers.proofs.Printing.{text-room}
