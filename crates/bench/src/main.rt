@@ -5,6 +5,7 @@ use libc::STDOUT_FILENO;
 use state::State;
 ghost use Prim.Native.Nat.{_≤_, _<_};
 ghost use lib.ListN.{length};
+ghost use Rattle.lines.specs.Grammar.{payloadRoom};
 ghost use Rattle.gather.specs.Lines.{mostKept};
 
 // The part of the block that waits to be heard, and whether there may be more to read.
@@ -42,7 +43,7 @@ fn run(
     buffer: &mut [u8],
     out: &mut [u8],
 )
-    requires { ⌜ (mostKept < length (now block)) × (1000 ≤ length (now payload)) ⌝ }
+    requires { ⌜ (mostKept < length (now block)) × (payloadRoom ≤ length (now payload)) ⌝ }
 {
     let mut state = begun;
     let mut part = Part {
@@ -69,7 +70,7 @@ fn run(
 fn main() {
     let begun = start::start(8, 1);
     let mut block = io::large_buffer();
-    let mut payload = [0u8; 1000];
+    let mut payload = [0u8; lines::PAYLOAD_ROOM];
     let mut memory = [0u8; 32768];
     let mut buffer = io::buffer();
     let mut out = io::large_buffer();

@@ -20,12 +20,12 @@ use Rattle.rules.specs.Act.{Out, step}
 use Rattle.numerals.specs.Hex.{hexBytes, pairAt}
 use Rattle.lines.specs.declared.Line.{Line}
 use Rattle.lines.specs.declared.Line.the-variants.{Said, Unreadable}
-use Rattle.lines.specs.Grammar.{longestLine, lineShape, hexField, isReadable, payloadOf, lineOf}
+use Rattle.lines.specs.Grammar.{longestLine, payloadRoom, lineShape, hexField, isReadable, payloadOf, lineOf}
 use Rattle.lines.proofs.Laws.{field-few}
 use Rattle.desk.specs.Heard.{heard, heardAs}
 
 -- a line's payload has at most a thousand bytes
-pub payload-few : (l : List ℕ) → length (payloadOf l) ≤ 1000
+pub payload-few : (l : List ℕ) → length (payloadOf l) ≤ payloadRoom
 unfolding payloadOf isReadable hexBytes
 payload-few l =
     decided (isReadable l && lineShape l .hex)
@@ -52,7 +52,7 @@ said-length r l e n h g =
     (λ t. absurd (omega (arith, ap tag (sym h ∙ (g ∙ pick-false _ _ _ t)))))
 
 -- they all lie in the room that was lent for them
-pub said-fits : (r : Line) (l : List ℕ) (e : Event) (n : ℕ) (d old : List ℕ) → r ≡ Said e n → r ≡ lineOf l → 1000 ≤ length old → d ≡ sets old 0 (payloadOf l) → n ≤ length d
+pub said-fits : (r : Line) (l : List ℕ) (e : Event) (n : ℕ) (d old : List ℕ) → r ≡ Said e n → r ≡ lineOf l → payloadRoom ≤ length old → d ≡ sets old 0 (payloadOf l) → n ≤ length d
 said-fits r l e n d old h g room f = omega (arith, said-length r l e n h g, payload-few l, ap length f, length-sets old 0 (payloadOf l))
 
 -- the bytes that were put are the payload
@@ -61,7 +61,7 @@ unfolding part
 put-back m p n e h = rw e (part-sets m 0 p (omega arith))
 
 module _ (s : State) (m l buffer : List ℕ) (r : Line) (g : r ≡ lineOf l) where
-  pub heard-said : (e : Event) (n : ℕ) (d old : List ℕ) (o : Out) → r ≡ Said e n → 1000 ≤ length old → d ≡ sets old 0 (payloadOf l) → o ≡ step s m e (take n d) buffer → o ≡ heard s m l buffer
+  pub heard-said : (e : Event) (n : ℕ) (d old : List ℕ) (o : Out) → r ≡ Said e n → payloadRoom ≤ length old → d ≡ sets old 0 (payloadOf l) → o ≡ step s m e (take n d) buffer → o ≡ heard s m l buffer
   unfolding heard
   heard-said e n d old o h room f q =
       let k : take n d ≡ payloadOf l = ap (λ (x : List ℕ). take n x) f ∙ put-back old (payloadOf l) n (said-length r l e n h g) (omega (arith, payload-few l)) in

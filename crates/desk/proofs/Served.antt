@@ -10,7 +10,6 @@ use lib.Seq.{sets, length-sets, length-take-le, drop-drop, take-append-le, take-
 use borrow.Rule.Slice.PartMut.{midOf, postOf, putMid, mid-len, same-len-mid}
 use lib.Dec.{leb, ltb}
 use borrow.Author.Tests.{le-leb, lt-leb, le-ltb, ltb-true, ltb-false, leb-true, leb-false}
-use Rattle.lists.specs.Below.{pick}
 use Rattle.lists.proofs.Logic.{decided, pick-true, pick-false, and-l, and-r}
 use Rattle.state.specs.declared.State.{State}
 use Rattle.events.specs.declared.Answer.{Answer}

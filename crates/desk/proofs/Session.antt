@@ -3,10 +3,10 @@ use Prim.Native.Nat.{ℕ, suc, _+_, _≤_, _<_}
 use native.Mathlib.Numerals.{add-one}
 use native.Mathlib.Omega.{arith}
 use mathlib.Core.Path.{_≡_, refl, sym, subst, ap, _∙_}
-use mathlib.Core.Bool.{Bool, true, false}
+use mathlib.Core.Bool.{true, false}
 use mathlib.Core.Logic.{_⊎_, inl, inr, ⊎-elim}
 use mathlib.Core.List.{List, [], _∷_, _++_, append-assoc, append-nil}
-use lib.ListN.{length, getD, take, drop, length-append, length-take}
+use lib.ListN.{length, take, drop, length-append, length-take}
 use lib.Seq.{length-take-le, drop-drop, take-all, getD-take}
 use lib.Dec.{leb, ltb, eqb}
 use borrow.Author.Tests.{leb-true, leb-false, ltb-true, ltb-false, lt-leb}
@@ -16,8 +16,8 @@ use Rattle.rules.specs.Act.{Out}
 use Rattle.numerals.specs.Place.{isAt}
 use Rattle.numerals.proofs.Places.{place-before}
 use Rattle.lines.specs.declared.Line.{Line}
-use Rattle.lines.specs.Grammar.{isReadable, payloadOf, lineOf}
-use Rattle.gather.specs.Lines.{newline, endedLines, openLine, lastLine, linesOf, lineEnd, longestLine, mostKept, clipped}
+use Rattle.lines.specs.Grammar.{longestLine, isReadable, payloadOf, lineOf}
+use Rattle.gather.specs.Lines.{newline, endedLines, openLine, lastLine, linesOf, lineEnd, mostKept, clipped}
 use Rattle.gather.proofs.Laws.{ended-newline, ended-other, open-newline, open-other, ended-cut, open-cut, none-ended, none-open, first-line, first-open, no-line, clip-few, clip-many}
 use Rattle.answers.specs.Text.{longestText, textOf}
 use Rattle.answers.proofs.Printing.{text-room}

@@ -7,7 +7,6 @@ use Rattle.lists.specs.Bytes.{zeros}
 use Rattle.geometry.specs.Geometry.{pageSize}
 use Rattle.state.specs.declared.State.{State}
 use Rattle.start.specs.Start.{freshState}
-use Rattle.rules.specs.Act.{Out}
 use Rattle.gather.specs.Lines.{endedLines, linesOf, clipped}
 use Rattle.answers.specs.Text.{longestText, textOf}
 use Rattle.desk.specs.Heard.{heard}

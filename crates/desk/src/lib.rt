@@ -8,6 +8,7 @@ ghost use mathlib.Core.List.{List, []};
 ghost use Prim.Native.Nat.{ℕ, _≤_};
 ghost use lib.ListN.{length, take};
 ghost use lib.Seq.{sets};
+ghost use Rattle.lines.specs.Grammar.{payloadRoom};
 ghost use Rattle.gather.specs.Lines.{endedLines};
 ghost use Rattle.monitor.specs.Allowed.{outOf};
 ghost use Rattle.desk.specs.Heard.{heard};
@@ -22,7 +23,7 @@ pub fn hear(
     memory: &mut [u8],
     buffer: &mut [u8],
 ) -> Stepped
-    requires { ⌜ 1000 ≤ length (now payload) ⌝ }
+    requires { ⌜ payloadRoom ≤ length (now payload) ⌝ }
     ensures { λ r. ⌜ outOf r (now (memory .exit)) (now (buffer .exit)) ≡ heard s (now (memory .entry)) (now (line .entry)) (now (buffer .entry)) ⌝ }
 {
     let read = lines::read_line(line, payload);
@@ -53,7 +54,7 @@ pub fn serve(
     buffer: &mut [u8],
     out: &mut [u8],
 ) -> Desk
-    requires { ⌜ 1000 ≤ length (now payload) ⌝ }
+    requires { ⌜ payloadRoom ≤ length (now payload) ⌝ }
     ensures { λ r. ⌜ standingOf r (now (memory .exit)) (now (buffer .exit)) (take (r .used) (now (out .exit))) ≡ answeredIn (length (now (out .entry))) (endedLines [] (now (text .entry))) (unasked s (now (memory .entry)) (now (buffer .entry))) ⌝ }
     ensures { λ r. ⌜ (r .at ≤ length (now (text .entry))) × (r .used ≤ length (now (out .entry))) ⌝ }
 {

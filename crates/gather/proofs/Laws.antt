@@ -2,16 +2,14 @@
 use Prim.Native.Nat.{ℕ, zero, suc, _+_, _≤_, _<_}
 use native.Mathlib.Omega.{arith}
 use mathlib.Core.Path.{_≡_, refl, sym, ap, _∙_}
-use mathlib.Core.Bool.{Bool, true, false}
+use mathlib.Core.Bool.{true, false}
 use mathlib.Core.List.{List, [], _∷_, _++_, append-assoc, append-nil}
-use lib.ListN.{length, getD, set, take, drop}
+use lib.ListN.{length, set, take, drop}
 use lib.Dec.{ltb, eqb}
 use borrow.Author.Tests.{ltb-true, ltb-false, lt-ltb, le-ltb}
-use Rattle.lists.specs.Below.{pick}
 use Rattle.lists.proofs.Logic.{decided, pick-true, pick-false}
 use Rattle.numerals.specs.Place.{isAt}
-use Rattle.numerals.proofs.Places.{place-at, place-before, place-le}
-use Rattle.gather.specs.declared.Text.{Text}
+use Rattle.numerals.proofs.Places.{place-at, place-before}
 use Rattle.gather.specs.Lines.{newline, endedLines, openLine, lastLine, linesOf, lineEnd, mostKept, clipped, receivedOf, withNewline}
 use Rattle.gather.specs.Cuts.{Cuts, LastLines}
 

@@ -34,11 +34,7 @@ linesOf input = endedLines [] input ++ lastLine (openLine [] input)
 abbrev pub lineEnd : List ℕ → ℕ
 lineEnd text = placeOf text newline
 
--- the most characters of a line
-abbrev pub longestLine : ℕ
-longestLine = 2000
-
--- as many characters of a line as say that it is too long, whatever follows
+-- as many characters of a line as say that it is too long, whatever follows: one more than are read
 abbrev pub mostKept : ℕ
 mostKept = 2001
 

@@ -14,7 +14,7 @@ use Rattle.numerals.proofs.Places.{place-le}
 use Rattle.lines.specs.declared.Verb.{Verb}
 use Rattle.lines.specs.declared.Verb.the-variants as verb
 use Rattle.lines.specs.declared.Shape.{Shape}
-use Rattle.lines.specs.Grammar.{shapeOf}
+use Rattle.lines.specs.Grammar.{longestLine, payloadRoom, shapeOf}
 use Rattle.lines.specs.Fields.{space, fieldEnd, spaceAt, fieldCount, restOf, restAfter, field, sameAt, sameText}
 
 pub end-le : (l : List ℕ) (e : ℕ) → e ≡ fieldEnd l → e ≤ length l
@@ -89,6 +89,6 @@ pub field-few : (l : List ℕ) (k : ℕ) → length (field l k) ≤ length l
 unfolding field
 field-few l k = omega (arith, rest-few l k, length-take (fieldEnd (restAfter l k)) (restAfter l k))
 
--- so that a thousand bytes are room for its pairs
-pub hex-room : (l t : List ℕ) (k : ℕ) {room : ℕ} → t ≡ field l k → length l ≤ 2000 → 1000 ≤ room → length t / 2 ≤ room
+-- so that there is room for its pairs
+pub hex-room : (l t : List ℕ) (k : ℕ) {room : ℕ} → t ≡ field l k → length l ≤ longestLine → payloadRoom ≤ room → length t / 2 ≤ room
 hex-room l t k e h r = omega (arith, ap length e, field-few l k)

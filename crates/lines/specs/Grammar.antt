@@ -122,6 +122,10 @@ isReadable l =
     && (argumentsOf l (lineShape l .numbers) .right
     && (not (lineShape l .hex) || isHex (hexField l))))
 
+-- room for any payload: two characters a byte
+abbrev pub payloadRoom : ℕ
+payloadRoom = 1000
+
 -- the payload bytes of a line
 unfoldable pub payloadOf : List ℕ → List ℕ
 payloadOf l = pick (isReadable l && lineShape l .hex) (hexBytes (hexField l)) []

@@ -12,7 +12,7 @@ ghost use lib.ListN.{length};
 ghost use lib.Seq.{sets};
 ghost use Rattle.lists.specs.Below.{pick};
 ghost use Rattle.lines.specs.Grammar as Grammar;
-ghost use Rattle.lines.specs.Grammar.{verbOf, shapeOf, eventOf, argumentAt, argumentsOf, isReadable, lineOf, payloadOf};
+ghost use Rattle.lines.specs.Grammar.{verbOf, shapeOf, eventOf, argumentAt, argumentsOf, isReadable, lineOf, payloadRoom, payloadOf};
 
 pub enum Verb {
     Reg,
@@ -196,9 +196,12 @@ pub enum Line {
 // "A line over 2,000 characters .. is `no 11`"
 pub const LONGEST_LINE: usize = 2000;
 
+// Room for any payload: two characters a byte.
+pub const PAYLOAD_ROOM: usize = 1000;
+
 // One line, without its newline, to what it says; the payload goes to the front of a lent slice, which a thousand bytes are enough for.
 pub fn read_line(line: &[u8], payload: &mut [u8]) -> Line
-    requires { ⌜ 1000 ≤ length (now payload) ⌝ }
+    requires { ⌜ payloadRoom ≤ length (now payload) ⌝ }
     ensures { λ r. ⌜ (r ≡ lineOf (now (line .entry))) × (now (payload .exit) ≡ sets (now (payload .entry)) 0 (payloadOf (now (line .entry)))) ⌝ }
 {
     if LONGEST_LINE < line.len() {

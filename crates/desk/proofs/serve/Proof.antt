@@ -13,11 +13,6 @@ use borrow.Author.Needs.{needs}
 use native.Mathlib.Omega.{arith}
 use Rattle.desk.proofs.serve.Statement.{statement}
 use Rattle.desk.proofs.serve.Tie as tie
-use Rattle.desk.proofs.serve.Reads as reads
-use Rattle.desk.proofs.serve.Lts as lts
-use Rattle.answers.proofs.say.Reads as say-reads
-use Rattle.desk.proofs.hear.Reads as hear-reads
-use Rattle.gather.proofs.line_end.Reads as line-end-reads
 
 abbrev Inv-loop : tie.InvT-loop
 Inv-loop text payload₀ memory₀ buffer₀ out₀ state₀ at₀ used₀ end₀ payload memory buffer out state at used end =
