@@ -17,7 +17,7 @@ use geometry::Geometry;
 pub fn counts_right(r: usize, e: usize) -> bool
     ensures { λ b. ⌜ b ≡ countsRight (fieldsOf r e [] []) ⌝ }
 {
-    ((2 <= r) & (r <= 4)) & ((1 <= e) & (e <= 8))
+    ((2 <= r) & (r <= Fields::RUNS)) & ((1 <= e) & (e <= Fields::ENTRIES))
 }
 
 // ---- runs
@@ -55,7 +55,7 @@ fn if_param(x: Run, n: usize) -> usize
 }
 
 // Each run by itself, and what is asked of all: `at` is where the run before ended.
-fn runs_right(r: usize, runs: [Run; 4]) -> bool
+fn runs_right(r: usize, runs: [Run; Fields::RUNS]) -> bool
     requires { ⌜ r ≤ 4 ⌝ }
     ensures { λ b. ⌜ b ≡ runsRight (fieldsOf r 0 runs []) ⌝ }
 {
@@ -91,7 +91,7 @@ fn code_holds(x: Run, page: usize) -> bool
 }
 
 // Whether ok holds and the page is in a code run: the one search of the two below, which goes no further than the run that has the page.
-fn code_if(ok: bool, r: usize, runs: [Run; 4], page: usize) -> bool
+fn code_if(ok: bool, r: usize, runs: [Run; Fields::RUNS], page: usize) -> bool
     requires { ⌜ r ≤ 4 ⌝ }
     ensures { λ b. ⌜ b ≡ ok && inCode (fieldsOf r 0 runs []) page ⌝ }
 {
@@ -109,7 +109,7 @@ fn code_if(ok: bool, r: usize, runs: [Run; 4], page: usize) -> bool
     false
 }
 
-pub fn in_code(r: usize, runs: [Run; 4], page: usize) -> bool
+pub fn in_code(r: usize, runs: [Run; Fields::RUNS], page: usize) -> bool
     requires { ⌜ r ≤ 4 ⌝ }
     ensures { λ b. ⌜ b ≡ inCode (fieldsOf r 0 runs []) page ⌝ }
 {
@@ -123,7 +123,12 @@ pub fn lengths_right(x: Entry) -> bool
 }
 
 // Each entry by itself, and that they rise: `least` is one more than the address before.
-fn entries_right(r: usize, e: usize, runs: [Run; 4], entries: [Entry; 8]) -> bool
+fn entries_right(
+    r: usize,
+    e: usize,
+    runs: [Run; Fields::RUNS],
+    entries: [Entry; Fields::ENTRIES],
+) -> bool
     requires { ⌜ (r ≤ 4) × (e ≤ 8) ⌝ }
     ensures { λ b. ⌜ b ≡ entriesRight (fieldsOf r e runs entries) ⌝ }
 {
@@ -143,7 +148,7 @@ fn entries_right(r: usize, e: usize, runs: [Run; 4], entries: [Entry; 8]) -> boo
 }
 
 // ---- unused places: each field by itself, so that a compiler takes the places as whole words
-pub fn runs_unused(r: usize, runs: [Run; 4]) -> bool
+pub fn runs_unused(r: usize, runs: [Run; Fields::RUNS]) -> bool
     requires { ⌜ r ≤ 4 ⌝ }
     ensures { λ b. ⌜ b ≡ all-below 4 (runFreeAt (fieldsOf r 0 runs [])) ⌝ }
 {
@@ -151,7 +156,7 @@ pub fn runs_unused(r: usize, runs: [Run; 4]) -> bool
     let mut count: u16 = 0;
     let mut first: u32 = 0;
     let mut i = r;
-    while i < 4 {
+    while i < Fields::RUNS {
         let x = runs[i];
         kind = kind | x.kind;
         count = count | x.count;
@@ -161,7 +166,7 @@ pub fn runs_unused(r: usize, runs: [Run; 4]) -> bool
     (kind == 0) & ((count == 0) & (first == 0))
 }
 
-pub fn entries_unused(e: usize, entries: [Entry; 8]) -> bool
+pub fn entries_unused(e: usize, entries: [Entry; Fields::ENTRIES]) -> bool
     requires { ⌜ e ≤ 8 ⌝ }
     ensures { λ b. ⌜ b ≡ all-below 8 (entryFreeAt (fieldsOf 0 e [] entries)) ⌝ }
 {
@@ -169,7 +174,7 @@ pub fn entries_unused(e: usize, entries: [Entry; 8]) -> bool
     let mut input: u16 = 0;
     let mut output: u16 = 0;
     let mut i = e;
-    while i < 8 {
+    while i < Fields::ENTRIES {
         let x = entries[i];
         address = address | x.address;
         input = input | x.input;
@@ -180,7 +185,12 @@ pub fn entries_unused(e: usize, entries: [Entry; 8]) -> bool
 }
 
 // ---- every rule
-pub fn keeps(r: usize, e: usize, runs: [Run; 4], entries: [Entry; 8]) -> bool
+pub fn keeps(
+    r: usize,
+    e: usize,
+    runs: [Run; Fields::RUNS],
+    entries: [Entry; Fields::ENTRIES],
+) -> bool
     ensures { λ b. ⌜ b ≡ keepsRules (fieldsOf r e runs entries) ⌝ }
 {
     if !counts_right(r, e) {

@@ -5,6 +5,7 @@ ghost use lib.Dec.{eqb};
 ghost use Rattle.lists.specs.Below.{all-below};
 ghost use Rattle.geometry.specs.Geometry.{mostPages};
 ghost use Rattle.painting.specs.Painting.{painted, paintedRuns, ownedFrom, ownedRun, alike, RunsFit};
+use fields::Fields;
 use fields::Run;
 use geometry::Geometry;
 
@@ -48,7 +49,7 @@ pub fn differ(a: &[u8; Geometry::MOST_PAGES], b: &[u8; Geometry::MOST_PAGES]) ->
 }
 
 // Zero where the table has v at every page of the n runs.
-pub fn runs_off(o: &[u8; Geometry::MOST_PAGES], n: usize, runs: [Run; 4], v: u8) -> u8
+pub fn runs_off(o: &[u8; Geometry::MOST_PAGES], n: usize, runs: [Run; Fields::RUNS], v: u8) -> u8
     requires { ⌜ RunsFit n runs ⌝ }
     ensures { λ r. ⌜ eqb r 0 ≡ all-below n (ownedRun (now (o .entry)) runs v) ⌝ }
 {
@@ -63,7 +64,7 @@ pub fn runs_off(o: &[u8; Geometry::MOST_PAGES], n: usize, runs: [Run; 4], v: u8)
 }
 
 // The pages of the n runs become v.
-pub fn paint_runs(t: &mut [u8; Geometry::MOST_PAGES], n: usize, runs: [Run; 4], v: u8)
+pub fn paint_runs(t: &mut [u8; Geometry::MOST_PAGES], n: usize, runs: [Run; Fields::RUNS], v: u8)
     requires { ⌜ RunsFit n runs ⌝ }
     ensures { λ _. ⌜ now (t .exit) ≡ paintedRuns (now (t .entry)) runs v n ⌝ }
 {

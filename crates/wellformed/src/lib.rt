@@ -13,6 +13,7 @@ ghost use Rattle.fields.specs.Pages.{pagesUnder};
 ghost use Rattle.wellformed.specs.WellFormed.{sizesRight, fieldsZero, byteZeroAt, pcrsZero, runningZero, outputAt, stateRight, wellFormed};
 ghost use Rattle.wellformed.specs.Tests.{slotRight, outTest, runningTest, modeTest};
 use fields::Entry;
+use fields::Fields;
 use fields::Run;
 use geometry::Geometry;
 use sha1::Digest;
@@ -58,8 +59,8 @@ fn free_right(
     mark: u64,
     r: usize,
     e: usize,
-    runs: [Run; 4],
-    entries: [Entry; 8],
+    runs: [Run; Fields::RUNS],
+    entries: [Entry; Fields::ENTRIES],
     pcrs: [Digest; Geometry::PCRS],
 ) -> bool
     ensures { λ b. ⌜ b ≡ (eqb mark 0 && fieldsZero (fieldsOf r e runs entries)) && pcrsZero pcrs ⌝ }
@@ -72,7 +73,13 @@ fn free_right(
 
 // ---- registered slots
 // Runs rise, so that the last one ends highest.
-fn used_right(r: usize, e: usize, runs: [Run; 4], entries: [Entry; 8], top: usize) -> bool
+fn used_right(
+    r: usize,
+    e: usize,
+    runs: [Run; Fields::RUNS],
+    entries: [Entry; Fields::ENTRIES],
+    top: usize,
+) -> bool
     ensures { λ b. ⌜ b ≡ keepsRules (fieldsOf r e runs entries) && pagesUnder (fieldsOf r e runs entries) top ⌝ }
 {
     if !keeps::keeps(r, e, runs, entries) {
@@ -102,7 +109,7 @@ fn running_zero(x: Running) -> bool
     (x.slot == 0) & ((x.out == 0) & (x.length == 0))
 }
 
-fn any_output(e: usize, entries: [Entry; 8], n: usize) -> bool
+fn any_output(e: usize, entries: [Entry; Fields::ENTRIES], n: usize) -> bool
     requires { ⌜ e ≤ entryPlaces ⌝ }
     ensures { λ r. ⌜ r ≡ any-below e (outputAt (fieldsOf 0 e [] entries) n) ⌝ }
 {
