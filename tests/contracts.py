@@ -68,6 +68,9 @@ def main():
     for path in sorted(ROOT.glob("crates/*/src/**/*.rt")):
         crate = path.relative_to(ROOT).parts[1]
         program = (ROOT / "crates" / crate / "src/main.rt").exists()
+        root = ROOT / "crates" / crate / "src" / ("main.rt" if program else "lib.rt")
+        if re.search(rf"^mod {path.stem};", root.read_text(encoding="utf-8"), re.M):
+            continue  # a module that is not `pub`: no other crate can call what is in it
         for name, owner, parameters, result, clauses in functions(path.read_text(encoding="utf-8")):
             total += 1
             where = f"{path.relative_to(ROOT)}: {name}"

@@ -1,4 +1,5 @@
--- One outcome for each input: the eleven events and the running record.
+-- One outcome for each input: the eleven events and the running record. Exception: an event's own function and `decided` say by a change what becomes of
+-- the state; answer, state after the change, memory and buffer are one, and not the change that comes to them.
 use Rattle.switch.proofs.enter as switch-enter
 use Rattle.switch.proofs.leave as switch-leave
 use Rattle.switch.proofs.entering as switch-entering
@@ -14,8 +15,12 @@ use Rattle.touch.proofs.read.read as touch-read
 use Rattle.touch.proofs.read.device_read as touch-device-read
 use Rattle.touch.proofs.write.write as touch-write
 use Rattle.touch.proofs.write.device_write as touch-device-write
+use Rattle.change.proofs.turned as change-turned
+use Rattle.change.proofs.kept as change-kept
+use Rattle.change.proofs.extending as change-extending
+use Rattle.change.proofs.enrolling as change-enrolling
+use Rattle.change.proofs.changed as change-changed
 use Rattle.release.proofs.jump.jump as release-jump
-use Rattle.release.proofs.release.left as release-left
 use Rattle.release.proofs.release.release as release-release
 use Rattle.release.proofs.unregister.unregister as release-unregister
 use Rattle.call.proofs.call.call as call-call
@@ -29,10 +34,13 @@ use Rattle.enroll.proofs.free.free_slot as enroll-free-slot
 use Rattle.enroll.proofs.measure.measured as enroll-measured
 use Rattle.enroll.proofs.register.register as enroll-register
 use Rattle.extend.proofs.extend.extend as extend-extend
+use Rattle.monitor.proofs.decided as monitor-decided
 use Rattle.monitor.proofs.step as monitor-step
 use borrow.Fn.World.{w₀}
 use borrow.Fn.Read.{r-last}
-use Rattle.unique.specs.One.{Says, OneOutcome, told}
+use Rattle.change.specs.Turns.{settled}
+use Rattle.monitor.specs.Allowed.{outOf}
+use Rattle.unique.specs.One.{Says, OneOutcome, told, OneView}
 
 -- A contract over a lent struct is proved by hand, and the toolchain makes no reading of it: its own clause, by the toolchain's rule for a plain fact.
 abbrev pub switch-enter-says : Says switch-enter.ended
@@ -57,19 +65,24 @@ pub record Events : Type 0 where
   pub touch-device-read-one : OneOutcome touch-device-read.ended touch-device-read.Reads.Learnt
   pub touch-write-one : OneOutcome touch-write.ended touch-write.Reads.Learnt
   pub touch-device-write-one : OneOutcome touch-device-write.ended touch-device-write.Reads.Learnt
-  pub release-jump-one : OneOutcome release-jump.ended release-jump.Reads.Learnt
-  pub release-left-one : OneOutcome release-left.ended release-left.Reads.Learnt
+  pub change-turned-one : OneOutcome change-turned.ended change-turned.Reads.Learnt
+  pub change-kept-one : OneOutcome change-kept.ended change-kept.Reads.Learnt
+  pub change-extending-one : OneOutcome change-extending.ended change-extending.Reads.Learnt
+  pub change-enrolling-one : OneOutcome change-enrolling.ended change-enrolling.Reads.Learnt
+  pub change-changed-one : OneOutcome change-changed.ended change-changed.Reads.Learnt
+  pub release-jump-one : OneView release-jump.ended release-jump.Reads.Learnt (λ κs a z w. (settled (a .0) z, w .1 .0))
   pub release-release-one : OneOutcome release-release.ended release-release.Reads.Learnt
-  pub release-unregister-one : OneOutcome release-unregister.ended release-unregister.Reads.Learnt
-  pub call-call-one : OneOutcome call-call.ended call-call.Reads.Learnt
+  pub release-unregister-one : OneView release-unregister.ended release-unregister.Reads.Learnt (λ κs a z w. (settled (a .0) z, w .1 .0))
+  pub call-call-one : OneView call-call.ended call-call.Reads.Learnt (λ κs a z w. (settled (a .0) z, w .1 .0))
   pub call-slot-for-one : OneOutcome call-slot-for.ended call-slot-for.Reads.Learnt
   pub call-param-of-one : OneOutcome call-param-of.ended call-param-of.Reads.Learnt
   pub call-param-start-one : OneOutcome call-param-start.ended call-param-start.Reads.Learnt
   pub call-kept-as-one : OneOutcome call-kept-as.ended call-kept-as.Reads.Learnt
-  pub call-return-one : OneOutcome call-return.ended call-return.Reads.Learnt
+  pub call-return-one : OneView call-return.ended call-return.Reads.Learnt (λ κs a z w. (settled (a .0) z, w .1 .0))
   pub enroll-all-open-one : OneOutcome enroll-all-open.ended enroll-all-open.Reads.Learnt
   pub enroll-free-slot-one : OneOutcome enroll-free-slot.ended enroll-free-slot.Reads.Learnt
   pub enroll-measured-one : OneOutcome enroll-measured.ended enroll-measured.Reads.Learnt
-  pub enroll-register-one : OneOutcome enroll-register.ended enroll-register.Reads.Learnt
-  pub extend-extend-one : OneOutcome extend-extend.ended extend-extend.Reads.Learnt
+  pub enroll-register-one : OneView enroll-register.ended enroll-register.Reads.Learnt (λ κs a z w. settled (a .0) z)
+  pub extend-extend-one : OneView extend-extend.ended extend-extend.Reads.Learnt (λ κs a z w. settled (a .0) z)
+  pub monitor-decided-one : OneView monitor-decided.ended monitor-decided.Reads.Learnt (λ κs a z w. outOf (settled (a .1 .1 .0) z) (w .1 .1 .1 .0) (w .1 .1 .1 .1 .0))
   pub monitor-step-one : OneOutcome monitor-step.ended monitor-step.Reads.Learnt

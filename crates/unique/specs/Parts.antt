@@ -1,5 +1,5 @@
 -- One outcome for each input: the machine, the hash, the manifest and the state. Exceptions, each with what is one of it:
--- `run_bits`, `entry_bits`, `differ` and `runs_off` say whether anything is not zero, and not which number stands for it: whether it is 0;
+-- `differ` and `runs_off` say whether anything is not zero, and not which number stands for it: whether it is 0;
 -- `chosen` hands back a part of what it was lent: its bytes, and not the reference's own name in the proof.
 use lib.Dec.{eqb}
 use Rattle.geometry.proofs.Geometry.numbers as geometry-numbers
@@ -21,13 +21,14 @@ use Rattle.sha1.proofs.taken as sha1-taken
 use Rattle.sha1.proofs.finished as sha1-finished
 use Rattle.sha1.proofs.hash as sha1-hash
 use Rattle.sha1.proofs.hash_pair as sha1-hash-pair
+use Rattle.fields.proofs.Fields.places as fields-places
 use Rattle.keeps.proofs.counts_right as keeps-counts-right
 use Rattle.keeps.proofs.run_end as keeps-run-end
 use Rattle.keeps.proofs.run_right as keeps-run-right
 use Rattle.keeps.proofs.in_code as keeps-in-code
 use Rattle.keeps.proofs.lengths_right as keeps-lengths-right
-use Rattle.keeps.proofs.run_bits as keeps-run-bits
-use Rattle.keeps.proofs.entry_bits as keeps-entry-bits
+use Rattle.keeps.proofs.runs_unused as keeps-runs-unused
+use Rattle.keeps.proofs.entries_unused as keeps-entries-unused
 use Rattle.keeps.proofs.keeps as keeps-keeps
 use Rattle.keeps.proofs.keeps_rules as keeps-keeps-rules
 use Rattle.manifest.proofs.read as manifest-read
@@ -67,13 +68,14 @@ pub record Parts : Type 0 where
   pub sha1-finished-one : OneOutcome sha1-finished.ended sha1-finished.Reads.Learnt
   pub sha1-hash-one : OneOutcome sha1-hash.ended sha1-hash.Reads.Learnt
   pub sha1-hash-pair-one : OneOutcome sha1-hash-pair.ended sha1-hash-pair.Reads.Learnt
+  pub fields-places-one : OneOutcome fields-places.ended fields-places.Reads.Learnt
   pub keeps-counts-right-one : OneOutcome keeps-counts-right.ended keeps-counts-right.Reads.Learnt
   pub keeps-run-end-one : OneOutcome keeps-run-end.ended keeps-run-end.Reads.Learnt
   pub keeps-run-right-one : OneOutcome keeps-run-right.ended keeps-run-right.Reads.Learnt
   pub keeps-in-code-one : OneOutcome keeps-in-code.ended keeps-in-code.Reads.Learnt
   pub keeps-lengths-right-one : OneOutcome keeps-lengths-right.ended keeps-lengths-right.Reads.Learnt
-  pub keeps-run-bits-one : OneView keeps-run-bits.ended keeps-run-bits.Reads.Learnt (λ κs a z w. eqb z 0)
-  pub keeps-entry-bits-one : OneView keeps-entry-bits.ended keeps-entry-bits.Reads.Learnt (λ κs a z w. eqb z 0)
+  pub keeps-runs-unused-one : OneOutcome keeps-runs-unused.ended keeps-runs-unused.Reads.Learnt
+  pub keeps-entries-unused-one : OneOutcome keeps-entries-unused.ended keeps-entries-unused.Reads.Learnt
   pub keeps-keeps-one : OneOutcome keeps-keeps.ended keeps-keeps.Reads.Learnt
   pub keeps-keeps-rules-one : OneOutcome keeps-keeps-rules.ended keeps-keeps-rules.Reads.Learnt
   pub manifest-read-one : OneOutcome manifest-read.ended manifest-read.Reads.Learnt

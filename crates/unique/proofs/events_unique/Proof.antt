@@ -1,7 +1,7 @@
 -- `unique::events_unique` keeps its promise: each contract is an equation with a definition, and what is known whole is known part by part.
 use mathlib.Core.Path.{refl}
 use mathlib.Core.List.{[]}
-use Rattle.unique.proofs.Same.{both, result, digest, stepped}
+use Rattle.unique.proofs.Same.{both, result, digest, stepped, settled-both}
 use Rattle.unique.proofs.events_unique.Statement.{statement}
 use Rattle.unique.proofs.events_unique.Tie as tie
 
@@ -22,21 +22,26 @@ returns c = record {
   touch-device-read-one = λ κs a z z′ w w′ p q. (both (p .0) (q .0), λ i. (tt, (tt, (both (p .1) (q .1) i, (tt, (tt, tt))))));
   touch-write-one = λ κs a z z′ w w′ p q. (both (p .0) (q .0), λ i. (tt, (both (p .1) (q .1) i, (tt, (tt, tt)))));
   touch-device-write-one = λ κs a z z′ w w′ p q. (both (p .0) (q .0), λ i. (tt, (both (p .1) (q .1) i, (tt, (tt, tt)))));
-  release-jump-one = λ κs a z z′ w w′ p q. let o = stepped (p []) (q []) in (o .0, λ i. (tt, (o .1 i, (tt, tt))));
-  release-left-one = λ κs a z z′ w w′. result;
-  release-release-one = λ κs a z z′ w w′ p q. (both (p .0) (q .0), λ i. (tt, (both (p .1) (q .1) i, (tt, tt))));
-  release-unregister-one = λ κs a z z′ w w′ p q. let o = stepped (p []) (q []) in (o .0, λ i. (tt, (o .1 i, (tt, (tt, tt)))));
-  call-call-one = λ κs a z z′ w w′ p q. let o = stepped (p []) (q []) in (o .0, λ i. (tt, (o .1 i, (tt, (tt, (tt, (tt, tt)))))));
+  change-turned-one = λ κs a z z′ w w′. result;
+  change-kept-one = λ κs a z z′ w w′. result;
+  change-extending-one = λ κs a z z′ w w′. result;
+  change-enrolling-one = λ κs a z z′ w w′. result;
+  change-changed-one = λ κs a z z′ w w′. result;
+  release-jump-one = λ κs a z z′ w w′ p q. settled-both (p []) (q []);
+  release-release-one = λ κs a z z′ w w′ p q. (both (p .0) (q .0), λ i. (both (p .1) (q .1) i, (tt, (tt, (tt, (tt, tt))))));
+  release-unregister-one = λ κs a z z′ w w′ p q. settled-both (p []) (q []);
+  call-call-one = λ κs a z z′ w w′ p q. settled-both (p []) (q []);
   call-slot-for-one = λ κs a z z′ w w′. result;
   call-param-of-one = λ κs a z z′ w w′. result;
-  call-param-start-one = λ κs a z z′ w w′ p q. result (p .0) (q .0);
+  call-param-start-one = λ κs a z z′ w w′. result;
   call-kept-as-one = λ κs a z z′ w w′. result;
-  call-return-one = λ κs a z z′ w w′ p q. let o = stepped (p []) (q []) in (o .0, λ i. (tt, (o .1 i, (tt, tt))));
+  call-return-one = λ κs a z z′ w w′ p q. settled-both (p []) (q []);
   enroll-all-open-one = λ κs a z z′ w w′. result;
   enroll-free-slot-one = λ κs a z z′ w w′. result;
   enroll-measured-one = λ κs a z z′ w w′. digest;
-  enroll-register-one = λ κs a z z′ w w′ p q. (stepped p q .0, refl);
-  extend-extend-one = λ κs a z z′ w w′ p q. (stepped p q .0, refl);
+  enroll-register-one = λ κs a z z′ w w′ p q. stepped (p .steps) (q .steps) .0;
+  extend-extend-one = λ κs a z z′ w w′ p q. stepped (p .steps) (q .steps) .0;
+  monitor-decided-one = λ κs a z z′ w w′ p q. both (p .out) (q .out);
   monitor-step-one = λ κs a z z′ w w′ p q. let o = both p q in ((λ i. record { answer = o i .answer; state = o i .state }), λ i. (tt, (tt, (tt, (o i .memory, (o i .buffer, tt))))));
 }
 
