@@ -12,10 +12,10 @@ use Rattle.lists.specs.Below.{pick}
 use Rattle.lists.proofs.Logic.{decided, pick-true, pick-false}
 use Rattle.lists.proofs.Parts.{sets-turn, sets-next}
 use Rattle.events.specs.declared.Answer.{Answer}
-use Rattle.events.specs.declared.Answer.the-variants.{Filled}
+use Rattle.events.specs.declared.Answer.the-variants.{Done, Slot, Entered, Left, Terminated, Filled, Refused}
 use Rattle.numerals.specs.Decimal.{digits, decimal}
 use Rattle.numerals.specs.Hex.{pairs}
-use Rattle.answers.specs.Text.{clipped, mostShown, longestText, ended, textOf, printed}
+use Rattle.answers.specs.Text.{clipped, mostShown, longestText, shownOf, ended, textOf, printed}
 
 -- the newline after what is in place
 pub word-turn : {d : List ℕ} (t w : List ℕ) (e : ℕ) → d ≡ sets t 0 w → e ≡ length w → set d e 10 ≡ sets t 0 (ended w)
@@ -104,3 +104,21 @@ shown-room n c m buffer f g = subst (λ (k : ℕ). k ≤ length buffer) (sym g) 
 
 pub shown-few : (n c m : ℕ) (buffer : List ℕ) → c ≡ clipped n mostShown → m ≡ clipped c (length buffer) → length (take m buffer) ≤ mostShown
 shown-few n c m buffer f g = omega (arith, length-take m buffer, g, clip-ge c (length buffer), f, clip-le n mostShown)
+
+-- a text has a character at least, its newline, and at most 8,197
+number-room : (x : ℕ) → (1 ≤ length (ended (decimal x))) × (length (ended (decimal x)) ≤ 21)
+number-room x = (omega (arith, ended-long (decimal x)), omega (arith, ended-long (decimal x), decimal-long x))
+
+bytes-room : (n : ℕ) (buffer : List ℕ) → (1 ≤ length (ended (pairs (shownOf n buffer)))) × (length (ended (pairs (shownOf n buffer))) ≤ mostShown * 2 + 1)
+bytes-room n buffer =
+    let e = ended-long (pairs (shownOf n buffer)) in
+    (omega arith, omega (arith, pairs-long (shownOf n buffer), shown-few n (clipped n mostShown) (clipped (clipped n mostShown) (length buffer)) buffer refl refl))
+
+pub text-room : (a : Answer) (buffer : List ℕ) → (1 ≤ length (textOf a buffer)) × (length (textOf a buffer) ≤ longestText)
+text-room Done buffer = (omega arith, omega arith)
+text-room (Slot s) buffer = let h = number-room s in (omega arith, omega arith)
+text-room (Entered s) buffer = let h = number-room s in (omega arith, omega arith)
+text-room (Left n) buffer = let h = number-room n in (omega arith, omega arith)
+text-room (Terminated s) buffer = let h = number-room s in (omega arith, omega arith)
+text-room (Filled n) buffer = let h = bytes-room n buffer in (omega arith, omega arith)
+text-room (Refused r) buffer = let h = number-room r in (omega arith, omega arith)

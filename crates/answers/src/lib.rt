@@ -9,6 +9,9 @@ ghost use Rattle.numerals.specs.Decimal.{decimal};
 ghost use Rattle.numerals.specs.Hex.{pairs};
 ghost use Rattle.answers.specs.Text.{clipped, mostShown, shownOf, ended, printed, Determined};
 
+// The most characters of an answer's text, its newline too.
+pub const LONGEST_TEXT: usize = 8197;
+
 fn clip(n: usize, most: usize) -> usize
     ensures { λ r. ⌜ r ≡ clipped n most ⌝ }
 {
@@ -68,7 +71,7 @@ fn say_bytes(text: &mut [u8], word: &[u8], bytes: &[u8]) -> usize
 pub fn say(answer: Answer, buffer: &[u8], text: &mut [u8]) -> usize
     ensures { λ r. ⌜ (now (text .exit) ≡ sets (now (text .entry)) 0 (printed (length (now (text .entry))) answer (now (buffer .entry)))) × (r ≡ length (printed (length (now (text .entry))) answer (now (buffer .entry)))) ⌝ }
 {
-    if text.len() < 8197 {
+    if text.len() < LONGEST_TEXT {
         return 0;
     }
     match answer {

@@ -1,149 +1,82 @@
 // The line program: standard input to standard output, on P=8, M=1, zeroed memory and a 4,096-byte answer buffer (document 01, "The line program").
+// What the bytes that are read make of state, memory, answer buffer and output is desk::serve's contract; here they are only read and written.
 use libc::STDIN_FILENO;
 use libc::STDOUT_FILENO;
 use state::State;
-ghost use Prim.Native.Nat.{_≤_};
+ghost use Prim.Native.Nat.{_≤_, _<_};
 ghost use lib.ListN.{length};
+ghost use Rattle.gather.specs.Lines.{mostKept};
 
-// What goes from one line to the next: the state, how many characters of a line are there, how much output waits, and whether it still goes out.
-struct Desk {
-    state: State,
-    count: usize,
-    used: usize,
-    open: bool,
+// The part of the block that waits to be heard, and whether there may be more to read.
+struct Part {
+    at: usize,
+    end: usize,
+    more: bool,
 }
 
-fn least(a: usize, b: usize) -> usize
-    ensures { λ r. ⌜ (r ≤ a) × (r ≤ b) ⌝ }
+// If more is wanted, the begin of a line that has not ended goes to the block's front, and what is read next behind it.
+fn refill(wanted: bool, block: &mut [u8], part: Part) -> Part
+    requires { ⌜ (part .at ≤ part .end) × (part .end ≤ length (now block)) × (mostKept < length (now block)) ⌝ }
+    ensures { λ r. ⌜ (r .at ≤ r .end) × (r .end ≤ length (now (block .entry))) ⌝ }
 {
-    if a < b { a } else { b }
-}
-
-// The place after n bytes more, of so many at most.
-fn next(used: usize, n: usize, most: usize) -> usize {
-    if most < used {
-        return most;
+    if !wanted {
+        return part;
     }
-    if most - used < n {
-        return most;
-    }
-    used + n
-}
-
-// The answer of a line that has ended goes to the output that waits; where it may not fit, that is written first.
-fn answered(
-    desk: Desk,
-    ended: bool,
-    line: &[u8],
-    payload: &mut [u8],
-    memory: &mut [u8],
-    buffer: &mut [u8],
-    out: &mut [u8],
-) -> Desk
-    requires { ⌜ 1000 ≤ length (now payload) ⌝ }
-{
-    if !ended {
-        return desk;
-    }
-    let before = desk.state;
-    let stepped = desk::hear_kept(line, desk.count, before, payload, memory, buffer);
-    let answer = stepped.answer;
-    let after = stepped.state;
-    let used = least(desk.used, out.len());
-    if out.len() - used < 8197 {
-        let open = io::write_all(STDOUT_FILENO, &out[0..used]);
-        let n = answers::say(answer, buffer, out);
-        return Desk {
-            state: after,
-            count: 0,
-            used: n,
-            open: open,
-        };
-    }
-    let n = answers::say(answer, buffer, &mut out[used..]);
-    Desk {
-        state: after,
-        count: 0,
-        used: next(used, n, out.len()),
-        open: desk.open,
+    let kept = gather::carry(block, part.at, part.end);
+    let got = libc::read(STDIN_FILENO, &mut block[kept..]);
+    let n = io::count(got, &block[kept..]);
+    let text = gather::received(block, kept, n);
+    Part {
+        at: 0,
+        end: text.end,
+        more: text.more,
     }
 }
 
-// All lines that end in a block; what is left of it begins the next.
-fn feed(
-    desk: Desk,
-    block: &[u8],
-    line: &mut [u8],
-    payload: &mut [u8],
-    memory: &mut [u8],
-    buffer: &mut [u8],
-    out: &mut [u8],
-) -> Desk
-    requires { ⌜ (length (now line) ≤ 2000) × (1000 ≤ length (now payload)) ⌝ }
-{
-    let mut d = desk;
-    let mut at = 0;
-    while at < block.len() {
-        let g = gather::gather(line, d.count, block, at);
-        at = g.at;
-        d.count = g.count;
-        d = answered(d, g.ended, line, payload, memory, buffer, out);
-        if !d.open {
-            return d;
-        }
-    }
-    d
-}
-
-// Blocks to the end of the input, or to the first read or write that fails.
-fn serve(
-    state: State,
+// Lines are heard and answers written to the end of the input, or to the first read or write that fails.
+fn run(
+    begun: State,
     block: &mut [u8],
-    line: &mut [u8],
     payload: &mut [u8],
     memory: &mut [u8],
     buffer: &mut [u8],
     out: &mut [u8],
 )
-    requires { ⌜ (length (now line) ≤ 2000) × (1000 ≤ length (now payload)) ⌝ }
+    requires { ⌜ (mostKept < length (now block)) × (1000 ≤ length (now payload)) ⌝ }
 {
-    let mut d = Desk {
-        state: state,
-        count: 0,
-        used: 0,
-        open: true,
+    let mut state = begun;
+    let mut part = Part {
+        at: 0,
+        end: 0,
+        more: true,
     };
+    let mut going = true;
     // A proved loop has to end: no input has so many blocks.
     let mut turns = u64::MAX;
-    let mut more = true;
-    while (turns > 0) & more {
-        let got = libc::read(STDIN_FILENO, block);
-        let n = io::count(got, block);
-        d = feed(d, &block[0..n], line, payload, memory, buffer, out);
-        more = (0 < n) & d.open;
+    while (turns > 0) & going {
+        let at = part.at;
+        let end = part.end;
+        let heard = desk::serve(&block[at..end], state, payload, memory, buffer, out);
+        state = heard.state;
+        part.at = at + heard.at;
+        let used = heard.used;
+        going = io::write_all(STDOUT_FILENO, &out[..used]) & ((0 < used) | part.more);
+        part = refill((used == 0) & part.more, block, part);
         turns -= 1;
     }
-    if !d.open {
-        return;
-    }
-    d = answered(d, 0 < d.count, line, payload, memory, buffer, out);
-    let used = least(d.used, out.len());
-    io::write_all(STDOUT_FILENO, &out[0..used]);
 }
 
 fn main() {
     let begun = start::start(8, 1);
     let mut block = io::large_buffer();
-    let mut line = [0u8; 2000];
     let mut payload = [0u8; 1000];
     let mut memory = [0u8; 32768];
     let mut buffer = io::buffer();
     let mut out = io::large_buffer();
     let state = begun.state;
-    serve(
+    run(
         state,
         &mut block,
-        &mut line,
         &mut payload,
         &mut memory,
         &mut buffer,

@@ -1,35 +1,19 @@
 -- An array that is filled from the front, and the blocks that end a message.
 use mathlib.Core.Path.{_≡_, refl, ap, sym, _∙_}
-use Prim.Native.Nat.{ℕ, zero, suc, _+_, _-_, _*_, _/_, _%_, _^_, _<_, _≤_}
+use Prim.Native.Nat.{ℕ, suc, _+_, _-_, _*_, _%_, _^_, _<_, _≤_}
 use mathlib.Core.List.{List, [], _∷_, _++_, append-assoc, append-nil}
 use native.Mathlib.Numerals.{add-one}
-use native.Mathlib.Nat.{pow-suc, mul-assoc, mod-add-div'}
 use native.Mathlib.Omega.{arith}
 use lib.ListN.{length, getD, take, set, replicate, length-append}
 use lib.Seq.{set-at, take-suc, take-at, take-all, getD-drop, length-take-le}
 use Rattle.lists.specs.Bytes.{zeros}
 use Rattle.lists.specs.Numbers.{big}
 use Rattle.lists.proofs.Parts.{zeros-long, zeros-add}
-use Rattle.lists.proofs.Numbers.{big-long}
+use Rattle.lists.proofs.Numbers.{big-long, big-low}
 use Rattle.blocks.specs.Blocks.{closing, rest, whole}
 use Rattle.blocks.specs.declared.Tail.{Tail}
 use Rattle.blocks.specs.Tail.{filled, ending, tailOf}
 use Rattle.blocks.proofs.Fold.{rest-long}
-
--- ---- numbers as bytes: only the low n bytes of x count
-
-big-past : (n x k : ℕ) → big n (x + k * 256 ^ n) ≡ big n x
-unfolding big
-big-past zero x k = refl
-big-past (suc n) x k =
-    let z : ℕ = k * 256 ^ n in
-    let e : k * 256 ^ suc n ≡ z * 256 = ap (λ (y : ℕ). k * y) (pow-suc 256 n) ∙ sym (mul-assoc k (256 ^ n) 256) in
-    let q : (x + k * 256 ^ suc n) / 256 ≡ x / 256 + z = omega arith in
-    let r : (x + k * 256 ^ suc n) % 256 ≡ x % 256 = omega arith in
-    rw (q, r, big-past n (x / 256) k)
-
-pub big-low : (n x : ℕ) → big n (x % 256 ^ n) ≡ big n x
-big-low n x = sym (big-past n (x % 256 ^ n) (x / 256 ^ n)) ∙ ap (big n) (mod-add-div' x (256 ^ n))
 
 -- two lengths that are the same modulo 2 ^ 61 bytes
 pub closing-same : (n a b : ℕ) → (a * 8) % 2 ^ 64 ≡ (b * 8) % 2 ^ 64 → closing n a ≡ closing n b

@@ -1,4 +1,5 @@
 // Which slot and entry a call names, and where the param page is.
+use fields::Fields;
 use fields::Run;
 use geometry::Geometry;
 use state::Found;
@@ -51,7 +52,7 @@ pub fn slot_for(s: State, mark: u64, address: usize) -> usize
 }
 
 // The param page of runs that have one.
-pub fn param_of(n: usize, runs: [Run; 4]) -> usize
+pub fn param_of(n: usize, runs: [Run; Fields::RUNS]) -> usize
     requires { ⌜ (n ≤ runPlaces) × (any-below n (isParamAt (fieldsOf n 0 runs [])) ≡ true) ⌝ }
     ensures { λ r. ⌜ r ≡ paramOf (fieldsOf n 0 runs []) ⌝ }
 {
@@ -67,7 +68,7 @@ pub fn param_of(n: usize, runs: [Run; 4]) -> usize
 }
 
 // Where the param page begins.
-pub fn param_start(n: usize, runs: [Run; 4]) -> usize
+pub fn param_start(n: usize, runs: [Run; Fields::RUNS]) -> usize
     requires { ⌜ (n ≤ runPlaces) × ((any-below n (isParamAt (fieldsOf n 0 runs [])) ≡ true) × (paramOf (fieldsOf n 0 runs []) < mostPages)) ⌝ }
     ensures { λ r. ⌜ r ≡ startOf (paramOf (fieldsOf n 0 runs [])) ⌝ }
 {

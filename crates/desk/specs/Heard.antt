@@ -1,9 +1,6 @@
 -- What a line does: what it says, by the rules; "any other is `no 11`", and "A refused line changes nothing, 11 included".
 use Prim.Native.Nat.{ℕ}
 use mathlib.Core.List.{List}
-use lib.ListN.{length, take}
-use lib.Dec.{leb}
-use Rattle.lists.specs.Below.{pick}
 use Rattle.events.specs.declared.Answer.the-variants as answer
 use Rattle.state.specs.declared.State.{State}
 use Rattle.rules.specs.Act.{Out, step}
@@ -23,7 +20,3 @@ heardAs Unreadable s m payload buffer = unheard s m buffer
 -- what a line does
 unfoldable pub heard : State → List ℕ → List ℕ → List ℕ → Out
 heard s m line buffer = heardAs (lineOf line) s m (payloadOf line) buffer
-
--- what a line of so many characters does, whose first ones are kept, as many as there is room for
-unfoldable pub heardKept : State → List ℕ → List ℕ → ℕ → List ℕ → Out
-heardKept s m kept count buffer = pick (leb count (length kept)) (heard s m (take count kept) buffer) (unheard s m buffer)

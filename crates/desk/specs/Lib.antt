@@ -1,1 +1,3 @@
 pub mod Heard
+pub mod Served
+pub mod Session

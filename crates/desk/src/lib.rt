@@ -4,13 +4,15 @@ use lines::Line;
 use state::State;
 use touch::Stepped;
 ghost use mathlib.Core.Path.{_≡_};
-ghost use mathlib.Core.List.{List};
+ghost use mathlib.Core.List.{List, []};
 ghost use Prim.Native.Nat.{ℕ, _≤_};
-ghost use lib.ListN.{length};
+ghost use lib.ListN.{length, take};
 ghost use lib.Seq.{sets};
-ghost use Rattle.gather.specs.Gather.{longestLine, clipped};
+ghost use Rattle.gather.specs.Lines.{endedLines};
 ghost use Rattle.monitor.specs.Allowed.{outOf};
-ghost use Rattle.desk.specs.Heard.{heard, heardKept};
+ghost use Rattle.desk.specs.Heard.{heard};
+ghost use Rattle.desk.specs.Served.{answeredIn, unasked, standingOf};
+ghost use Rattle.desk.specs.Session.{Faithful, Thorough};
 
 // The payload's room is scratch space: what it holds afterwards has no meaning.
 pub fn hear(
@@ -35,24 +37,51 @@ pub fn hear(
     }
 }
 
-// The same of a line as it is gathered: its first characters, and how many it has. Room for the longest readable line is enough to hear a line of any length.
-pub fn hear_kept(
-    kept: &[u8],
-    count: usize,
+// Where the lines of a text have led: the state, how far the text is heard, and how many characters the answers have.
+pub struct Desk {
+    pub state: State,
+    pub at: usize,
+    pub used: usize,
+}
+
+// Each line that ends in a text is heard and its answer printed, one after another, as long as the output has room for any answer.
+pub fn serve(
+    text: &[u8],
     s: State,
     payload: &mut [u8],
     memory: &mut [u8],
     buffer: &mut [u8],
-) -> Stepped
+    out: &mut [u8],
+) -> Desk
     requires { ⌜ 1000 ≤ length (now payload) ⌝ }
-    ensures { λ r. ⌜ outOf r (now (memory .exit)) (now (buffer .exit)) ≡ heardKept s (now (memory .entry)) (now (kept .entry)) count (now (buffer .entry)) ⌝ }
-    ensures { λ r. ⌜ ((line old : List ℕ) → length old ≡ longestLine → now (kept .entry) ≡ sets old 0 line → count ≡ clipped (length line) → outOf r (now (memory .exit)) (now (buffer .exit)) ≡ heard s (now (memory .entry)) line (now (buffer .entry))) ⌝ }
+    ensures { λ r. ⌜ standingOf r (now (memory .exit)) (now (buffer .exit)) (take (r .used) (now (out .exit))) ≡ answeredIn (length (now (out .entry))) (endedLines [] (now (text .entry))) (unasked s (now (memory .entry)) (now (buffer .entry))) ⌝ }
+    ensures { λ r. ⌜ (r .at ≤ length (now (text .entry))) × (r .used ≤ length (now (out .entry))) ⌝ }
 {
-    if kept.len() < count {
-        return Stepped {
-            answer: Answer::Refused(11),
-            state: s,
-        };
+    let mut state = s;
+    let mut at = 0;
+    let mut used = 0;
+    let mut end = gather::line_end(text);
+    while (end < text.len()) & (answers::LONGEST_TEXT <= out.len() - used) {
+        let stepped = hear(&text[at..end], state, payload, memory, buffer);
+        let answer = stepped.answer;
+        used += answers::say(answer, buffer, &mut out[used..]);
+        state = stepped.state;
+        at = end + 1;
+        end = at + gather::line_end(&text[at..]);
     }
-    hear(&kept[..count], s, payload, memory, buffer)
+    Desk {
+        state: state,
+        at: at,
+        used: used,
+    }
 }
+
+// What is written is what the input as a whole is answered, however it is cut and read.
+pub fn faithful()
+    ensures { λ _. ⌜ Faithful ⌝ }
+{}
+
+// Where nothing is printed, every line is heard.
+pub fn thorough()
+    ensures { λ _. ⌜ Thorough ⌝ }
+{}

@@ -1,4 +1,5 @@
 // Whether the pages of runs are open, and which slot is free.
+use fields::Fields;
 use fields::Run;
 use geometry::Geometry;
 use state::State;
@@ -12,7 +13,7 @@ ghost use Rattle.painting.specs.Painting.{RunsFit, ownedRun};
 ghost use Rattle.state.specs.Face.{faceOf};
 ghost use Rattle.rules.specs.Tests.{freeSlot};
 
-fn all_under(pages: usize, n: usize, runs: [Run; 4]) -> bool
+fn all_under(pages: usize, n: usize, runs: [Run; Fields::RUNS]) -> bool
     requires { ⌜ RunsFit n runs ⌝ }
     ensures { λ r. ⌜ r ≡ pagesUnder (fieldsOf n 0 runs []) pages ⌝ }
 {
@@ -28,7 +29,12 @@ fn all_under(pages: usize, n: usize, runs: [Run; 4]) -> bool
 }
 
 // Every page of the runs is open.
-pub fn all_open(pages: usize, owner: &[u8; 1024], n: usize, runs: [Run; 4]) -> bool
+pub fn all_open(
+    pages: usize,
+    owner: &[u8; Geometry::MOST_PAGES],
+    n: usize,
+    runs: [Run; Fields::RUNS],
+) -> bool
     requires { ⌜ RunsFit n runs ⌝ }
     ensures { λ r. ⌜ r ≡ pagesUnder (fieldsOf n 0 runs []) pages && all-below n (ownedRun (now (owner .entry)) runs 0) ⌝ }
 {

@@ -1,4 +1,5 @@
 // "the measurement is SHA-1 of the contents of its pages in run order": hashed out of the lent memory, run by run, with no copy.
+use fields::Fields;
 use fields::Run;
 use geometry::Geometry;
 ghost use mathlib.Core.Path.{_≡_};
@@ -11,7 +12,7 @@ ghost use Rattle.fields.specs.Pages.{pagesOf};
 ghost use Rattle.sha1.specs.Sha1.{sha1};
 ghost use Rattle.release.specs.Release.{RunsIn};
 
-pub fn measured(memory: &[u8], n: usize, runs: [Run; 4]) -> sha1::Digest
+pub fn measured(memory: &[u8], n: usize, runs: [Run; Fields::RUNS]) -> sha1::Digest
     requires { ⌜ RunsIn n runs (length (now memory)) ⌝ }
     ensures { λ r. ⌜ r .bytes ≡ sha1 (gather pageSize (now (memory .entry)) (pagesOf (fieldsOf n 0 runs []))) ⌝ }
 {

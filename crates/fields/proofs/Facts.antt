@@ -1,9 +1,8 @@
 -- What the rules say of fields that keep them, as facts.
-use Prim.Native.Nat.{ℕ, suc, _+_, _-_, _≤_, _<_}
-use native.Mathlib.Omega.{arith}
-use mathlib.Core.Path.{_≡_, refl, sym, _∙_}
-use mathlib.Core.Bool.{Bool, true, false, _&&_, _||_}
-use lib.Dec.{leb, ltb, eqb}
+use Prim.Native.Nat.{ℕ, _+_, _-_, _≤_, _<_}
+use mathlib.Core.Path.{_≡_}
+use mathlib.Core.Bool.{true, _&&_}
+use lib.Dec.{leb, eqb}
 use borrow.Author.Tests.{leb-true, ltb-true, eqb-true, le-ltb}
 use Rattle.lists.specs.Below.{all-below, any-below, sum-below}
 use Rattle.lists.proofs.Logic.{and-l, and-r}
@@ -12,37 +11,8 @@ use Rattle.geometry.specs.Geometry.{pageOf}
 use Rattle.fields.specs.declared.Run.{Run}
 use Rattle.fields.specs.declared.Entry.{Entry}
 use Rattle.fields.specs.declared.Fields.{Fields}
-use Rattle.fields.specs.Fields.{runPlaces, entryPlaces, noRun, noEntry, runAt, entryAt, endOf}
-use Rattle.fields.specs.Rules.{
-  countsRight,
-  isCode,
-  isParam,
-  runRight,
-  runRightAt,
-  risesAt,
-  runsRise,
-  countAt,
-  pagesFew,
-  codeAt,
-  someCode,
-  paramAt,
-  paramPagesAt,
-  oneParam,
-  runsRight,
-  holds,
-  inCode,
-  lengthsRight,
-  entryRightAt,
-  laterAt,
-  entriesRise,
-  entriesRight,
-  runZero,
-  entryZero,
-  runFreeAt,
-  entryFreeAt,
-  unusedZero,
-  keepsRules,
-}
+use Rattle.fields.specs.Fields.{noRun, noEntry, runAt, entryAt, endOf}
+use Rattle.fields.specs.Rules.{countsRight, runRight, runRightAt, risesAt, runsRise, countAt, pagesFew, codeAt, someCode, paramAt, paramPagesAt, oneParam, runsRight, inCode, lengthsRight, entryRightAt, laterAt, entriesRise, entriesRight, runZero, entryZero, runFreeAt, entryFreeAt, unusedZero, keepsRules}
 
 -- the counts in their bounds
 pub record Counts (f : Fields) : Type 0 where

@@ -1,28 +1,27 @@
 -- The pages of fields that keep the rules: each in one run, the param page among them, and their list.
 use Prim.Native.Nat.{ℕ, zero, suc, _+_, _-_, _*_, _≤_, _<_}
 use native.Mathlib.Omega.{arith}
-use native.Mathlib.Numerals.{add-one}
-use mathlib.Core.Path.{_≡_, refl, sym, ap, subst, _∙_}
-use mathlib.Core.Bool.{Bool, true, false, _&&_, _||_, false≢true}
-use mathlib.Core.Logic.{_⊎_, ⊎-elim, inl, inr}
+use mathlib.Core.Path.{_≡_, refl, sym, subst, _∙_}
+use mathlib.Core.Bool.{Bool, true, false, _&&_, _||_, or-false, false≢true}
+use mathlib.Core.Logic.{_⊎_, ⊎-elim}
 use mathlib.Core.List.{List, [], _∷_, _++_}
 use lib.Dec.{leb, ltb, eqb}
-use lib.ListN.{length, getD, length-append}
-use borrow.Author.Tests.{leb-true, ltb-true, eqb-true, le-leb, lt-ltb, eq-eqb, ne-eqb}
-use Rattle.lists.specs.Below.{pick, all-below, any-below, first-below, sum-below, table, joined}
+use lib.ListN.{length, length-append}
+use borrow.Author.Tests.{leb-true, ltb-true, eqb-true, le-leb, lt-ltb, eq-eqb}
+use Rattle.lists.specs.Below.{any-below, first-below, sum-below, table, joined}
 use Rattle.lists.specs.Bytes.{counted}
 use Rattle.lists.proofs.Logic.{and-l, and-r, both, or-cases, or-left, or-right, iff, decided, lt-or-ge}
 use Rattle.lists.proofs.All.{all-at}
-use Rattle.lists.proofs.Any.{Found, any-find, any-hit, any-no}
-use Rattle.lists.proofs.First.{first-le, first-at, first-before}
-use Rattle.lists.proofs.Sums.{sum-part, sum-le}
-use Rattle.lists.proofs.Pages.{counted-long, counted-more}
+use Rattle.lists.proofs.Any.{any-find, any-hit}
+use Rattle.lists.proofs.First.{first-at, first-before}
+use Rattle.lists.proofs.Sums.{sum-part, sum-two, sum-le}
+use Rattle.lists.proofs.Pages.{counted-long}
 use Rattle.fields.specs.declared.Run.{Run}
 use Rattle.fields.specs.declared.Fields.{Fields}
 use Rattle.fields.specs.Fields.{runAt, endOf}
-use Rattle.fields.specs.Rules.{isCode, isParam, holds, codeHoldsAt, inCode, countAt, paramAt, paramPagesAt, risesAt, keepsRules}
+use Rattle.fields.specs.Rules.{isCode, isParam, holds, codeHoldsAt, inCode, countAt, paramAt, paramPagesAt, keepsRules}
 use Rattle.fields.specs.Pages.{runPages, pagesOf, holdsAt, hasPage, isParamAt, paramOf, underAt, pagesUnder}
-use Rattle.fields.proofs.Facts.{Counts, RunFacts, RunsFacts, EntriesFacts, Kept, kept}
+use Rattle.fields.proofs.Facts.{RunsFacts, kept}
 
 -- ---- a page in a run
 
@@ -63,10 +62,6 @@ pub listed-append : (p : ℕ) (xs ys : List ℕ) → listed p (xs ++ ys) ≡ lis
 listed-append p [] ys = refl
 listed-append p (x ∷ xs) ys = decided (eqb p x) (λ e. rw e) (λ e. rw e (listed-append p xs ys))
 
-or-none : (b : Bool) → b || false ≡ b
-or-none true = refl
-or-none false = refl
-
 -- the pages of a run
 pub listed-counted : (p a n : ℕ) → listed p (counted a n) ≡ leb a p && ltb p (a + n)
 unfolding counted table
@@ -80,7 +75,7 @@ listed-counted p a n = iff _ _ (there n) (back n)
         let l = leb-true a p (and-l _ _ t) in
         let m = ltb-true p (a + n) (and-r (leb a p) _ t) in
         both _ _ (le-leb a p l) (lt-ltb p (a + suc n) (omega arith)))
-        (λ (g : listed p ((a + n) ∷ []) ≡ true). let e : p ≡ a + n = eqb-true p (a + n) (sym (or-none (eqb p (a + n))) ∙ g) in
+        (λ (g : listed p ((a + n) ∷ []) ≡ true). let e : p ≡ a + n = eqb-true p (a + n) (sym (or-false (eqb p (a + n))) ∙ g) in
         both _ _ (le-leb a p (omega arith)) (lt-ltb p (a + suc n) (omega arith)))
         (or-cases _ _ (sym (listed-append p (counted a n) ((a + n) ∷ [])) ∙ h))
 
@@ -160,16 +155,6 @@ module _ (f : Fields) (k : RunsFacts f) where
       (lt-or-ge i j)
 
 -- ---- the param page
-
--- two parts of a sum are together at most the sum
-sum-two : (g : ℕ → ℕ) (n i j : ℕ) → i < j → j < n → g i + g j ≤ sum-below n g
-unfolding sum-below
-sum-two g zero i j l m = absurd (omega arith)
-sum-two g (suc n) i j l m =
-    ⊎-elim
-    (λ (q : j < n). omega (arith, sum-two g n i j l q))
-    (λ (q : n ≤ j). let e : j ≡ n = omega arith in rw e (omega (arith, sum-part g n i (omega arith))))
-    (lt-or-ge j n)
 
 -- the one param run, its place and its page
 pub record Param (f : Fields) : Type 0 where

@@ -5,7 +5,6 @@ use mathlib.Core.List.{List}
 use lib.Dec.{leb}
 use Rattle.lists.specs.Below.{all-below, any-below, first-below, joined}
 use Rattle.lists.specs.Bytes.{counted}
-use Rattle.fields.specs.declared.Run.{Run}
 use Rattle.fields.specs.declared.Fields.{Fields}
 use Rattle.fields.specs.Fields.{runAt, endOf}
 use Rattle.fields.specs.Rules.{isParam, holds}

@@ -1,6 +1,6 @@
 -- The rules on a manifest's fields, in document 01's order and words. Reader, writer and well-formedness use these.
 use Prim.Native.Nat.{ℕ, _+_, _-_}
-use mathlib.Core.Bool.{Bool, _&&_, _||_, not}
+use mathlib.Core.Bool.{Bool, _&&_, _||_}
 use lib.Dec.{leb, ltb, eqb}
 use Rattle.lists.specs.Below.{pick, all-below, any-below, sum-below}
 use Rattle.geometry.specs.Geometry.{mostPages, mostHeld, halfPage, pageOf}

@@ -1,7 +1,7 @@
 // The machine's geometry: the one place of its numbers, from address to page and from page to bytes.
 ghost use mathlib.Core.Path.{_≡_};
-ghost use Prim.Native.Nat.{ℕ, _≤_, _<_};
-ghost use mathlib.Core.List.{List, [], _∷_};
+ghost use Prim.Native.Nat.{_≤_, _<_};
+ghost use mathlib.Core.List.{[], _∷_};
 ghost use Rattle.geometry.specs.Geometry.{pageSize, leastPages, mostPages, slotCount, pcrCount, digestSize, mostHeld, halfPage, pageOf, startOf, bytesOf, isRange};
 
 // The bytes of a page: from `start` up to, and without, `end`.

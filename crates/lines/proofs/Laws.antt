@@ -1,6 +1,5 @@
 -- How fields are found.
 use Prim.Native.Nat.{ℕ, zero, suc, _+_, _/_, _≤_, _<_}
-use native.Mathlib.Nat.{le-antisymm}
 use native.Mathlib.Numerals.{add-one}
 use native.Mathlib.Omega.{arith}
 use mathlib.Core.Path.{_≡_, refl, sym, subst, ap, _∙_}
@@ -9,23 +8,17 @@ use mathlib.Core.List.{List, []}
 use lib.ListN.{length, getD, take, drop, drop-of-length-le, length-drop, length-take}
 use lib.Dec.{eqb}
 use borrow.Author.Tests.{ne-eqb, eq-eqb}
-use Rattle.lists.specs.Below.{pick, all-below, first-below, sum-below}
-use Rattle.lists.proofs.First.{first-le, first-end}
+use Rattle.lists.specs.Below.{pick, all-below}
 use Rattle.lists.proofs.All.{all-end}
+use Rattle.numerals.proofs.Places.{place-le}
 use Rattle.lines.specs.declared.Verb.{Verb}
 use Rattle.lines.specs.declared.Verb.the-variants as verb
 use Rattle.lines.specs.declared.Shape.{Shape}
 use Rattle.lines.specs.Grammar.{shapeOf}
-use Rattle.lines.specs.Fields.{isSpace, fieldEnd, spaceAt, fieldCount, restOf, restAfter, field, sameAt, sameText}
-
--- no space was found
-pub end-none : (l : List ℕ) (i : ℕ) → i ≤ length l → length l ≤ i → i ≡ first-below (isSpace l) i → i ≡ fieldEnd l
-unfolding fieldEnd
-end-none l i p q h = le-antisymm p q ∙ first-end (isSpace l) (length l) i p q h
+use Rattle.lines.specs.Fields.{space, fieldEnd, spaceAt, fieldCount, restOf, restAfter, field, sameAt, sameText}
 
 pub end-le : (l : List ℕ) (e : ℕ) → e ≡ fieldEnd l → e ≤ length l
-unfolding fieldEnd
-end-le l e h = subst (λ (k : ℕ). k ≤ length l) (sym h) (first-le (isSpace l) (length l))
+end-le l e h = place-le l space e h
 
 -- what follows the first space
 pub rest-found : (l : List ℕ) (e : ℕ) → e ≡ fieldEnd l → drop (e + 1) l ≡ restOf l

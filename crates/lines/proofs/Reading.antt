@@ -19,7 +19,7 @@ use Rattle.lines.specs.declared.Arguments.{Arguments}
 use Rattle.lines.specs.declared.Line.{Line}
 use Rattle.lines.specs.declared.Line.the-variants.{Said, Unreadable}
 use Rattle.lines.specs.Fields.{fieldCount, field}
-use Rattle.lines.specs.Grammar.{longestLine, verbOf, shapeOf, eventOf, argumentsOf, lineVerb, lineShape, hexField, isReadable, payloadOf, lineOf}
+use Rattle.lines.specs.Grammar.{longestLine, named, verbOf, shapeOf, eventOf, argumentsOf, lineVerb, lineShape, hexField, isReadable, payloadOf, lineOf}
 
 -- what is known of a line when its fields are counted
 pub record Known (l w : List ℕ) (v : Verb) (sh : Shape) (xs : Arguments) : Type 0 where
@@ -117,3 +117,7 @@ module _ {l w : List ℕ} {v : Verb} {sh : Shape} {xs : Arguments} (k : Known l 
         let i : isHex (hexField l) ≡ true = ap isHex (sym (hex-is t d)) ∙ h in
         let y : isReadable l ≡ true = rw (le-leb (length l) longestLine short, counted, righted, g, i) in
         said (hexBytes t) (length t / 2) y (pick-true _ _ _ (both (isReadable l) (lineShape l .hex) y g) ∙ ap hexBytes (sym (hex-is t d))) (sym (table-long (pairAt t) (length t / 2)))
+
+-- a word is compared with one name after another
+pub named-then : (w n : List ℕ) (v : Verb) {o p r : Verb} → r ≡ named w n v o → o ≡ p → r ≡ named w n v p
+named-then w n v h e = h ∙ ap (named w n v) e

@@ -4,18 +4,19 @@ use mathlib.Core.Bool.{Bool, _&&_}
 use mathlib.Core.List.{List}
 use lib.ListN.{length, getD, take, drop}
 use lib.Dec.{eqb}
-use Rattle.lists.specs.Below.{pick, all-below, first-below, sum-below}
+use Rattle.lists.specs.Below.{pick, all-below, sum-below}
+use Rattle.numerals.specs.Place.{isAt, placeOf}
 
-abbrev pub isSpace : List ℕ → ℕ → Bool
-isSpace l i = eqb (getD l i 0) 32
+abbrev pub space : ℕ
+space = 32
 
 -- the place of the first space, or the length
-unfoldable pub fieldEnd : List ℕ → ℕ
-fieldEnd l = first-below (isSpace l) (length l)
+abbrev pub fieldEnd : List ℕ → ℕ
+fieldEnd l = placeOf l space
 
 -- one more than there are spaces
 abbrev pub spaceAt : List ℕ → ℕ → ℕ
-spaceAt l i = pick (isSpace l i) 1 0
+spaceAt l i = pick (isAt l space i) 1 0
 
 unfoldable pub fieldCount : List ℕ → ℕ
 fieldCount l = sum-below (length l) (spaceAt l) + 1

@@ -24,33 +24,37 @@ use Rattle.lines.specs.Fields.{fieldCount, field, sameText}
 abbrev pub longestLine : ℕ
 longestLine = 2000
 
+-- the verb of a word that is this name; of any other, what is said besides
+unfoldable pub named : List ℕ → List ℕ → Verb → Verb → Verb
+named w name v other = pick (sameText w name) v other
+
 -- the command words
 unfoldable pub verbOf : List ℕ → Verb
 verbOf w =
     -- reg
-    pick (sameText w (114 ∷ 101 ∷ 103 ∷ [])) verb.Reg
+    named w (114 ∷ 101 ∷ 103 ∷ []) verb.Reg
     -- unr
-    (pick (sameText w (117 ∷ 110 ∷ 114 ∷ [])) verb.Unr
+    (named w (117 ∷ 110 ∷ 114 ∷ []) verb.Unr
     -- call
-    (pick (sameText w (99 ∷ 97 ∷ 108 ∷ 108 ∷ [])) verb.Call
+    (named w (99 ∷ 97 ∷ 108 ∷ 108 ∷ []) verb.Call
     -- ret
-    (pick (sameText w (114 ∷ 101 ∷ 116 ∷ [])) verb.Ret
+    (named w (114 ∷ 101 ∷ 116 ∷ []) verb.Ret
     -- jmp
-    (pick (sameText w (106 ∷ 109 ∷ 112 ∷ [])) verb.Jmp
+    (named w (106 ∷ 109 ∷ 112 ∷ []) verb.Jmp
     -- get
-    (pick (sameText w (103 ∷ 101 ∷ 116 ∷ [])) verb.Get
+    (named w (103 ∷ 101 ∷ 116 ∷ []) verb.Get
     -- put
-    (pick (sameText w (112 ∷ 117 ∷ 116 ∷ [])) verb.Put
+    (named w (112 ∷ 117 ∷ 116 ∷ []) verb.Put
     -- dget
-    (pick (sameText w (100 ∷ 103 ∷ 101 ∷ 116 ∷ [])) verb.Dget
+    (named w (100 ∷ 103 ∷ 101 ∷ 116 ∷ []) verb.Dget
     -- dput
-    (pick (sameText w (100 ∷ 112 ∷ 117 ∷ 116 ∷ [])) verb.Dput
+    (named w (100 ∷ 112 ∷ 117 ∷ 116 ∷ []) verb.Dput
     -- extp
-    (pick (sameText w (101 ∷ 120 ∷ 116 ∷ 112 ∷ [])) verb.Extp
+    (named w (101 ∷ 120 ∷ 116 ∷ 112 ∷ []) verb.Extp
     -- extm
-    (pick (sameText w (101 ∷ 120 ∷ 116 ∷ 109 ∷ [])) verb.Extm
+    (named w (101 ∷ 120 ∷ 116 ∷ 109 ∷ []) verb.Extm
     -- pcr
-    (pick (sameText w (112 ∷ 99 ∷ 114 ∷ [])) verb.Pcr
+    (named w (112 ∷ 99 ∷ 114 ∷ []) verb.Pcr
     verb.Other)))))))))))
 
 -- how many fields a command has, its word too; how many of them are numbers; whether a HEX follows these. Every line has a field, so that of no command has none.

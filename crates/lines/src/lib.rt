@@ -1,100 +1,18 @@
 // One line of the program's input to a command (document 01, "The line program").
+mod fields;
+
 use events::Event;
 use memory::Source;
 use numerals::Numeral;
 ghost use mathlib.Core.Path.{_≡_};
 ghost use mathlib.Core.Bool.{Bool, true};
 ghost use mathlib.Core.List.{List};
-ghost use Prim.Native.Nat.{ℕ, _+_, _≤_, _<_};
-ghost use lib.ListN.{length, drop};
+ghost use Prim.Native.Nat.{ℕ, _≤_};
+ghost use lib.ListN.{length};
 ghost use lib.Seq.{sets};
-ghost use lib.Dec.{eqb};
 ghost use Rattle.lists.specs.Below.{pick};
-ghost use Rattle.lines.specs.Fields.{fieldEnd, fieldCount, restOf, restAfter, field, sameText};
+ghost use Rattle.lines.specs.Grammar as Grammar;
 ghost use Rattle.lines.specs.Grammar.{verbOf, shapeOf, eventOf, argumentAt, argumentsOf, isReadable, lineOf, payloadOf};
-
-// The place of the first space, or the length.
-fn field_end(text: &[u8]) -> usize
-    ensures { λ r. ⌜ r ≡ fieldEnd (now (text .entry)) ⌝ }
-{
-    let mut i = 0;
-    while i < text.len() {
-        if text[i] == 32 {
-            return i;
-        }
-        i += 1;
-    }
-    i
-}
-
-fn space_of(c: u8) -> usize
-    ensures { λ r. ⌜ r ≡ pick (eqb c 32) 1 0 ⌝ }
-{
-    if c == 32 {
-        return 1;
-    }
-    0
-}
-
-fn field_count(text: &[u8]) -> usize
-    ensures { λ r. ⌜ r ≡ fieldCount (now (text .entry)) ⌝ }
-{
-    let mut n = 0;
-    let mut i = 0;
-    while i < text.len() {
-        n += space_of(text[i]);
-        i += 1;
-    }
-    n + 1
-}
-
-// Where what follows the first space begins.
-fn rest_place(text: &[u8]) -> usize
-    ensures { λ r. ⌜ (r ≤ length (now (text .entry))) × (drop r (now (text .entry)) ≡ restOf (now (text .entry))) ⌝ }
-{
-    let e = field_end(text);
-    if e < text.len() {
-        return e + 1;
-    }
-    e
-}
-
-// What follows the k-th space.
-fn rest_after(text: &[u8], k: usize) -> &[u8]
-    ensures { λ r. ⌜ now r ≡ restAfter (now (text .entry)) k ⌝ }
-{
-    let mut t = text;
-    let mut i = 0;
-    while i < k {
-        let p = rest_place(t);
-        t = &t[p..];
-        i += 1;
-    }
-    t
-}
-
-fn field_of(text: &[u8], k: usize) -> &[u8]
-    ensures { λ r. ⌜ now r ≡ field (now (text .entry)) k ⌝ }
-{
-    let t = rest_after(text, k);
-    let e = field_end(t);
-    &t[..e]
-}
-
-fn same(a: &[u8], b: &[u8]) -> bool
-    ensures { λ r. ⌜ r ≡ sameText (now (a .entry)) (now (b .entry)) ⌝ }
-{
-    if a.len() != b.len() {
-        return false;
-    }
-    let mut right = true;
-    let mut i = 0;
-    while i < a.len() {
-        right = right & (a[i] == b[i]);
-        i += 1;
-    }
-    right
-}
 
 pub enum Verb {
     Reg,
@@ -112,46 +30,32 @@ pub enum Verb {
     Other,
 }
 
+// The verb of a word that is this name; of any other, what is said besides.
+fn named(word: &[u8], name: &[u8], verb: Verb, other: Verb) -> Verb
+    ensures { λ r. ⌜ r ≡ Grammar.named (now (word .entry)) (now (name .entry)) verb other ⌝ }
+{
+    if fields::same(word, name) {
+        return verb;
+    }
+    other
+}
+
 fn verb_of(word: &[u8]) -> Verb
     ensures { λ r. ⌜ r ≡ verbOf (now (word .entry)) ⌝ }
 {
-    if same(word, b"reg") {
-        return Verb::Reg;
-    }
-    if same(word, b"unr") {
-        return Verb::Unr;
-    }
-    if same(word, b"call") {
-        return Verb::Call;
-    }
-    if same(word, b"ret") {
-        return Verb::Ret;
-    }
-    if same(word, b"jmp") {
-        return Verb::Jmp;
-    }
-    if same(word, b"get") {
-        return Verb::Get;
-    }
-    if same(word, b"put") {
-        return Verb::Put;
-    }
-    if same(word, b"dget") {
-        return Verb::Dget;
-    }
-    if same(word, b"dput") {
-        return Verb::Dput;
-    }
-    if same(word, b"extp") {
-        return Verb::Extp;
-    }
-    if same(word, b"extm") {
-        return Verb::Extm;
-    }
-    if same(word, b"pcr") {
-        return Verb::Pcr;
-    }
-    Verb::Other
+    let v = Verb::Other;
+    let v = named(word, b"pcr", Verb::Pcr, v);
+    let v = named(word, b"extm", Verb::Extm, v);
+    let v = named(word, b"extp", Verb::Extp, v);
+    let v = named(word, b"dput", Verb::Dput, v);
+    let v = named(word, b"dget", Verb::Dget, v);
+    let v = named(word, b"put", Verb::Put, v);
+    let v = named(word, b"get", Verb::Get, v);
+    let v = named(word, b"jmp", Verb::Jmp, v);
+    let v = named(word, b"ret", Verb::Ret, v);
+    let v = named(word, b"call", Verb::Call, v);
+    let v = named(word, b"unr", Verb::Unr, v);
+    named(word, b"reg", Verb::Reg, v)
 }
 
 // How many fields a command has, how many of them are numbers, and whether a HEX follows these.
@@ -264,7 +168,7 @@ fn argument_at(line: &[u8], n: usize, k: usize) -> Numeral
             value: 0,
         };
     }
-    numerals::number(field_of(line, k))
+    numerals::number(fields::field_of(line, k))
 }
 
 fn arguments_of(line: &[u8], n: usize) -> Arguments
@@ -289,18 +193,21 @@ pub enum Line {
     Unreadable,
 }
 
+// "A line over 2,000 characters .. is `no 11`"
+pub const LONGEST_LINE: usize = 2000;
+
 // One line, without its newline, to what it says; the payload goes to the front of a lent slice, which a thousand bytes are enough for.
 pub fn read_line(line: &[u8], payload: &mut [u8]) -> Line
     requires { ⌜ 1000 ≤ length (now payload) ⌝ }
     ensures { λ r. ⌜ (r ≡ lineOf (now (line .entry))) × (now (payload .exit) ≡ sets (now (payload .entry)) 0 (payloadOf (now (line .entry)))) ⌝ }
 {
-    if 2000 < line.len() {
+    if LONGEST_LINE < line.len() {
         return Line::Unreadable;
     }
-    let verb = verb_of(field_of(line, 0));
+    let verb = verb_of(fields::field_of(line, 0));
     let shape = shape_of(verb);
     let arguments = arguments_of(line, shape.numbers);
-    if field_count(line) != shape.fields {
+    if fields::field_count(line) != shape.fields {
         return Line::Unreadable;
     }
     if !arguments.right {
@@ -313,7 +220,7 @@ pub fn read_line(line: &[u8], payload: &mut [u8]) -> Line
             length: 0,
         };
     }
-    let text = field_of(line, shape.numbers + 1);
+    let text = fields::field_of(line, shape.numbers + 1);
     if !numerals::is_hex(text) {
         return Line::Unreadable;
     }

@@ -1,17 +1,14 @@
 -- Laws of whole pages: wiping them and gathering them.
 use mathlib.Core.Path.{_≡_, refl, sym, ap, _∙_}
-use mathlib.Core.Logic.{_⊎_, ⊎-elim, inl, inr}
-use mathlib.Core.List.{List, [], _∷_, _++_, append-assoc}
-use Prim.Native.Nat.{ℕ, zero, suc, _+_, _*_, _≤_, _<_}
+use mathlib.Core.List.{List, [], _∷_, _++_}
+use Prim.Native.Nat.{ℕ, zero, suc, _+_, _*_, _<_}
 use native.Mathlib.Nat.{zero-mul, suc-mul, add-mul}
-use native.Mathlib.Numerals.{add-one}
-use native.Mathlib.Omega.{arith}
 use lib.ListN.{length, getD}
 use lib.Seq.{sets, length-sets}
 use Rattle.lists.specs.Below.{table}
-use Rattle.lists.specs.Bytes.{part, zeros, counted, wipe, gather}
+use Rattle.lists.specs.Bytes.{zeros, counted, wipe}
 use Rattle.lists.proofs.Tables.{table-long, table-at}
-use Rattle.lists.proofs.Parts.{zeros-long, zeros-add, sets-append, sets-keep, sets-join, sets-before, sets-after, part-same}
+use Rattle.lists.proofs.Parts.{zeros-long, zeros-add, sets-append, sets-keep}
 
 -- wiping keeps the length
 pub wipe-long : (z : ℕ) (ps m : List ℕ) → length (wipe z m ps) ≡ length m

@@ -1,14 +1,14 @@
 -- Laws of bytes put into a list (`sets`) and taken out of it (`part`), and of zeros; the turns of the loops that copy.
-use mathlib.Core.Path.{_≡_, refl, sym, ap, subst, _∙_}
-use mathlib.Core.Logic.{_≢_, _⊎_, ⊎-elim, inl, inr}
+use mathlib.Core.Path.{_≡_, refl, sym, ap, _∙_}
+use mathlib.Core.Logic.{_≢_, _⊎_, ⊎-elim}
 use mathlib.Core.List.{List, [], _∷_, _++_, append-assoc}
 use Prim.Native.Nat.{ℕ, zero, suc, _+_, _-_, _≤_, _<_}
 use native.Mathlib.Nat.{add-zero, add-suc, suc-add}
 use native.Mathlib.Numerals.{add-one}
 use native.Mathlib.Omega.{arith}
 use native.Mathlib.Decide.{decLt, ℕ-discrete}
-use lib.ListN.{length, take, drop, getD, set, replicate, length-append, length-take, length-drop, length-set, length-replicate, getD-replicate, replicate-append-replicate, List·getD-eq-default}
-use lib.Seq.{sets, length-sets, sets-eq, getD-set-same, getD-set-other, getD-take, getD-drop, ext-getD, set-out, length-take-le, take-suc, take-length, drop-drop}
+use lib.ListN.{length, take, drop, getD, set, replicate, length-take, length-drop, length-set, length-replicate, getD-replicate, replicate-append-replicate, List·getD-eq-default}
+use lib.Seq.{sets, length-sets, sets-eq, getD-set-same, getD-set-other, getD-take, getD-drop, ext-getD, set-out, length-take-le, take-suc, take-add, take-length, drop-at, drop-cons, drop-drop}
 use Rattle.lists.specs.Bytes.{part, zeros}
 
 -- ---- zeros
@@ -68,6 +68,21 @@ part-at m at n i h = rw (getD-take, getD-drop)
 pub part-all : (m : List ℕ) (n : ℕ) → length m ≡ n → part m 0 n ≡ m
 unfolding part
 part-all m n e = rw (← e) (take-length m)
+
+-- a part and what follows it are one part
+pub part-join : (m : List ℕ) (at n k : ℕ) → part m at n ++ part m (at + n) k ≡ part m at (n + k)
+unfolding part
+part-join m at n k = rw (take-add n k (drop at m), drop-drop)
+
+-- a part's first byte and its others
+pub part-cons : (m : List ℕ) (at n : ℕ) → at < length m → part m at (suc n) ≡ getD m at 0 ∷ part m (at + 1) n
+unfolding part
+part-cons m at n h = rw (drop-cons m at 0 h, add-one)
+
+-- a part of what follows a list of n bytes
+pub part-after : (xs m : List ℕ) (n at k : ℕ) → length xs ≡ n → part (xs ++ m) (n + at) k ≡ part m at k
+unfolding part
+part-after xs m n at k e = rw (← drop-drop, drop-at xs m n e)
 
 -- the part that was lent from a to e
 pub part-lent : (m : List ℕ) (a e n : ℕ) → e ≡ a + n → take (e - a) (drop a m) ≡ part m a n

@@ -38,3 +38,13 @@ module _ (f : ℕ → ℕ) where
       (λ (m : i < n). omega (arith, sum-part n i m))
       (λ (m : n ≤ i). let e : i ≡ n = omega arith in rw e (omega arith))
       (lt-or-ge i n)
+
+  -- and two parts of it together
+  pub sum-two : (n i j : ℕ) → i < j → j < n → f i + f j ≤ sum-below n f
+  unfolding sum-below
+  sum-two zero i j l m = absurd (omega arith)
+  sum-two (suc n) i j l m =
+      ⊎-elim
+      (λ (q : j < n). omega (arith, sum-two n i j l q))
+      (λ (q : n ≤ j). let e : j ≡ n = omega arith in rw e (omega (arith, sum-part n i (omega arith))))
+      (lt-or-ge j n)

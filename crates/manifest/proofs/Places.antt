@@ -1,35 +1,21 @@
 -- Laws of `placed`: places filled from the back.
-use mathlib.Core.Path.{_≡_, refl, sym, ap, subst, _∙_}
+use mathlib.Core.Path.{_≡_, sym, ap, subst, _∙_}
 use mathlib.Core.Logic.{⊎-elim}
 use native.Mathlib.Nat.{eq-or-lt-of-le}
-use mathlib.Core.Bool.{true, false, _&&_}
+use mathlib.Core.Bool.{_&&_}
 use mathlib.Core.List.{List}
 use Prim.Native.Nat.{ℕ, _+_, _-_, _≤_, _<_}
-use native.Mathlib.Decide.{ℕ-discrete, decLe}
+use native.Mathlib.Decide.{decLe}
 use native.Mathlib.Omega.{arith}
 use lib.Dec.{leb, ltb}
-use lib.ListN.{length, getD, set, length-set}
-use lib.Seq.{ext-getD, getD-set-same, getD-set-other}
+use lib.ListN.{length, getD, set}
 use borrow.Author.Tests.{le-leb, lt-leb, lt-ltb, le-ltb}
 use Rattle.lists.specs.Below.{pick, table}
-use Rattle.lists.proofs.Tables.{table-long, table-at, table-same}
+use Rattle.lists.proofs.Tables.{table-long, table-at, table-same, table-is, table-set}
 use Rattle.manifest.specs.Layout.{placed}
 
 module _ {A : Type 0} where
-  -- a list that is a table's elements
-  pub table-is : (l : List A) (n : ℕ) (f : ℕ → A) (z : A) → length l ≡ n → ((k : ℕ) → k < n → getD l k z ≡ f k) → l ≡ table f n
-  table-is l n f z e h = ext-getD z l (table f n) (e ∙ sym (table-long f n)) (λ i b. h i (omega arith) ∙ sym (table-at f n i z (omega arith)))
-
-  -- a table with one element changed
-  table-set : (n : ℕ) (f g : ℕ → A) (i : ℕ) (x : A) → i < n → x ≡ g i → ((k : ℕ) → k < n → (k ≡ i → ⊥) → f k ≡ g k) → set (table f n) i x ≡ table g n
-  table-set n f g i x b e h =
-      table-is (set (table f n) i x) n g x (length-set (table f n) i x ∙ table-long f n) (λ k l. split k l (ℕ-discrete k i))
-    where
-      split : (k : ℕ) → k < n → Dec (k ≡ i) → getD (set (table f n) i x) k x ≡ g k
-      split k l (yes q) =
-          ap (λ (j : ℕ). getD (set (table f n) i x) j x) q ∙ getD-set-same (table f n) i x x (omega (arith, table-long f n)) ∙ e ∙ ap g (sym q)
-      split k l (no q) = getD-set-other (table f n) i k x x q ∙ table-at f n k x l ∙ h k l q
-
+  -- as many places as were asked
   pub placed-long : (n i e : ℕ) (g : ℕ → A) (z : A) → length (placed n i e g z) ≡ n
   unfolding placed
   placed-long n i e g z = table-long _ n

@@ -1,12 +1,12 @@
 -- What each step of the reader says of the whole.
 use mathlib.Core.Path.{_≡_, refl, sym, ap, _∙_}
 use mathlib.Core.Bool.{Bool, true, false, _&&_, and-false, true≢false}
-use mathlib.Core.List.{List, [], _∷_}
+use mathlib.Core.List.{List, []}
 use Prim.Native.Nat.{ℕ, _+_, _-_, _*_, _≤_, _<_}
 use native.Mathlib.Omega.{arith}
 use lib.Dec.{leb, eqb}
 use lib.ListN.{length, getD}
-use borrow.Author.Tests.{leb-true, eqb-true, le-leb, lt-leb}
+use borrow.Author.Tests.{eqb-true, le-leb, lt-leb}
 use Rattle.lists.specs.Below.{pick, all-below}
 use Rattle.lists.specs.Bytes.{part}
 use Rattle.lists.specs.Numbers.{littleAt}
@@ -16,7 +16,7 @@ use Rattle.fields.specs.declared.Run.{Run}
 use Rattle.fields.specs.declared.Entry.{Entry}
 use Rattle.fields.specs.declared.Fields.{Fields}
 use Rattle.fields.specs.Fields.{noRun, noEntry, runAt, entryAt, fieldsOf}
-use Rattle.fields.specs.Rules.{countsRight, runRight, runRightAt, runsRight, lengthsRight, entryRightAt, entriesRight, unusedZero, keepsRules}
+use Rattle.fields.specs.Rules.{countsRight, runRight, runRightAt, runsRight, lengthsRight, entryRightAt, entriesRight, keepsRules}
 use Rattle.fields.proofs.Facts.{Counts, counts}
 use Rattle.manifest.specs.declared.TrailerRead.the-variants as trailer
 use Rattle.manifest.specs.declared.RunRead.the-variants as run
@@ -42,6 +42,11 @@ use Rattle.manifest.specs.Reader.{
 }
 use Rattle.manifest.proofs.Equal.{equal-true}
 use Rattle.manifest.proofs.Places.{placed-in}
+
+-- of two different answers the second was picked: the test has failed
+second : {A : Type 0} (b : Bool) (x y : A) → (x ≡ y → true ≡ false) → pick b x y ≡ y → b ≡ false
+second true x y n e = n e
+second false x y n e = refl
 
 -- what a trailer at t says
 pub record Trailer (l : List ℕ) (t r e : ℕ) : Type 0 where
@@ -127,11 +132,7 @@ trailer-short l h = rw (lt-leb 16 (length l) h)
 
 pub trailer-not : (l : List ℕ) → trailerOf l ≡ trailer.Bad → trailed l ≡ false
 unfolding trailerOf
-trailer-not l h = go (trailed l) h
-  where
-    go : (b : Bool) → pick b (trailer.Is (record { r = runsIn l; e = entriesIn l })) trailer.Bad ≡ trailer.Bad → b ≡ false
-    go true k = cc
-    go false k = refl
+trailer-not l h = second (trailed l) _ _ (λ k. cc) h
 
 -- an entry and a run that were read, or not
 pub entry-got : (l : List ℕ) (at : ℕ) (x : Entry) → entryOf l at ≡ entry.Is x → x ≡ entryIn l at
@@ -152,11 +153,7 @@ entry-bad l at x e h = rw (ap lengthsRight (sym e) ∙ h)
 
 pub entry-not : (l : List ℕ) (at : ℕ) → entryOf l at ≡ entry.Bad → lengthsRight (entryIn l at) ≡ false
 unfolding entryOf
-entry-not l at e = go (lengthsRight (entryIn l at)) e
-  where
-    go : (b : Bool) → pick b (entry.Is (entryIn l at)) entry.Bad ≡ entry.Bad → b ≡ false
-    go true h = cc
-    go false h = refl
+entry-not l at e = second (lengthsRight (entryIn l at)) _ _ (λ k. cc) e
 
 pub run-got : (l : List ℕ) (at : ℕ) (x : Run) → runOf l at ≡ run.Is x → (x ≡ runIn l at) × (blank l at ≡ true)
 unfolding runOf
@@ -177,11 +174,7 @@ run-bad l at x t e q h = rw (ap (λ (y : Run). blank l at && runRight y) (sym e)
 
 pub run-not : (l : List ℕ) (at : ℕ) → runOf l at ≡ run.Bad → blank l at && runRight (runIn l at) ≡ false
 unfolding runOf
-run-not l at e = go (blank l at && runRight (runIn l at)) e
-  where
-    go : (b : Bool) → pick b (run.Is (runIn l at)) run.Bad ≡ run.Bad → b ≡ false
-    go true h = cc
-    go false h = refl
+run-not l at e = second (blank l at && runRight (runIn l at)) _ _ (λ k. cc) e
 
 -- a run or an entry that breaks a rule breaks the whole
 pub run-breaks : (f : Fields) (k : ℕ) → k < f .r → runRight (runAt f k) ≡ false → keepsRules f ≡ false

@@ -1,5 +1,5 @@
 -- Numbers of two bytes and of four, as the code reckons them.
-use mathlib.Core.Path.{_≡_, refl, sym, ap, _∙_}
+use mathlib.Core.Path.{_≡_, refl}
 use mathlib.Core.List.{List, [], _∷_}
 use Prim.Native.Nat.{ℕ, _+_, _*_, _/_, _%_}
 use native.Mathlib.Nat.{add-assoc, div-div-eq-div-mul}

@@ -10,7 +10,6 @@ use Rattle.lists.specs.Numbers.{littleAt}
 use Rattle.fields.specs.declared.Fields.{Fields}
 use Rattle.fields.specs.Fields.{fieldsOf, zeroFields}
 use Rattle.fields.specs.Rules.{countsRight, runRight, lengthsRight, keepsRules}
-use Rattle.manifest.specs.declared.Counts.{Counts}
 use Rattle.manifest.specs.declared.TrailerRead.{TrailerRead}
 use Rattle.manifest.specs.declared.TrailerRead.the-variants as trailer
 use Rattle.manifest.specs.declared.RunRead.{RunRead}

@@ -2,7 +2,7 @@
 mod parts; // the writer's parts
 
 ghost use mathlib.Core.Path.{_≡_};
-ghost use Prim.Native.Nat.{ℕ, _+_, _*_, _≤_, _<_};
+ghost use Prim.Native.Nat.{_+_, _*_, _≤_, _<_};
 ghost use lib.ListN.{length, getD};
 ghost use Rattle.lists.specs.Numbers.{littleAt};
 ghost use Rattle.manifest.specs.Layout.{itemSize};

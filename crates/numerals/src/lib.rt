@@ -7,6 +7,21 @@ ghost use lib.ListN.{length, drop};
 ghost use lib.Seq.{sets};
 ghost use Rattle.numerals.specs.Decimal.{digitValue, moreOf, numberOf, decimal};
 ghost use Rattle.numerals.specs.Hex.{hexValue, isHex, hexBytes, hexDigit, pairs};
+ghost use Rattle.numerals.specs.Place.{placeOf};
+
+// The first place of a character in a text, or the text's length.
+pub fn place_of(text: &[u8], c: u8) -> usize
+    ensures { λ r. ⌜ r ≡ placeOf (now (text .entry)) c ⌝ }
+{
+    let mut i = 0;
+    while i < text.len() {
+        if text[i] == c {
+            return i;
+        }
+        i += 1;
+    }
+    i
+}
 
 // A number read, or not one: then its value is 0.
 pub struct Numeral {

@@ -2,6 +2,7 @@
 use change::Change;
 use change::Turn;
 use events::Answer;
+use fields::Fields;
 use fields::Run;
 ghost use mathlib.Core.Path.{_≡_};
 ghost use mathlib.Core.List.{[]};
@@ -14,7 +15,7 @@ ghost use Rattle.change.specs.Turns.{turnOf};
 ghost use Rattle.release.specs.Release.{RunsIn};
 
 // Every byte of every page of the runs becomes zero.
-fn zero_pages(memory: &mut [u8], n: usize, runs: [Run; 4])
+fn zero_pages(memory: &mut [u8], n: usize, runs: [Run; Fields::RUNS])
     requires { ⌜ RunsIn n runs (length (now memory)) ⌝ }
     ensures { λ _. ⌜ now (memory .exit) ≡ wipe pageSize (now (memory .entry)) (pagesOf (fieldsOf n 0 runs [])) ⌝ }
 {
@@ -27,7 +28,13 @@ fn zero_pages(memory: &mut [u8], n: usize, runs: [Run; 4])
 }
 
 // Memory's part is done, and the change says what becomes of the state.
-pub fn release(memory: &mut [u8], n: usize, runs: [Run; 4], k: usize, answer: Answer) -> Change
+pub fn release(
+    memory: &mut [u8],
+    n: usize,
+    runs: [Run; Fields::RUNS],
+    k: usize,
+    answer: Answer,
+) -> Change
     requires { ⌜ RunsIn n runs (length (now memory)) ⌝ }
     ensures { λ r. ⌜ (r ≡ turnOf answer (Turn.Frees k)) × (now (memory .exit) ≡ wipe pageSize (now (memory .entry)) (pagesOf (fieldsOf n 0 runs []))) ⌝ }
 {

@@ -1,6 +1,6 @@
 -- The table of examples and its claim.
-use mathlib.Core.Path.{_≡_, refl}
-use mathlib.Core.Bool.{true, _&&_}
+use mathlib.Core.Path.{_≡_}
+use mathlib.Core.Bool.{true}
 use mathlib.Core.List.{List, [], _∷_, _++_}
 use Rattle.lists.proofs.Logic.{and-l, and-r, both}
 use Rattle.manifest.specs.Reader.{equal}

@@ -1,4 +1,3 @@
-pub mod Laws
 pub mod Rewritten
 pub mod Reread
 pub mod Trips

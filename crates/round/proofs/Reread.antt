@@ -1,34 +1,33 @@
 -- Fields that keep the rules, written and read again, are the same fields.
 use mathlib.Core.Path.{_≡_, refl, sym, ap, _∙_}
-use mathlib.Core.Bool.{true, _&&_}
+use mathlib.Core.Bool.{true}
 use mathlib.Core.List.{List, [], _∷_, _++_, append-assoc}
-use Prim.Native.Nat.{ℕ, suc, _+_, _-_, _*_, _/_, _^_, _≤_, _<_}
+use Prim.Native.Nat.{ℕ, suc, _+_, _-_, _*_, _≤_, _<_}
 use native.Mathlib.Nat.{add-zero}
 use native.Mathlib.Omega.{arith}
-use lib.Dec.{leb, eqb}
 use lib.ListN.{length, take, drop, getD, length-append}
 use lib.Seq.{drop-at, getD-drop}
 use borrow.Author.Tests.{le-leb, eq-eqb}
-use Rattle.lists.specs.Below.{pick, all-below, joined}
+use Rattle.lists.specs.Below.{all-below, joined}
 use Rattle.lists.specs.Bytes.{part}
 use Rattle.lists.specs.Numbers.{little, littleAt}
 use Rattle.lists.proofs.All.{all-of}
-use Rattle.lists.proofs.Parts.{part-at}
-use Rattle.lists.proofs.Numbers.{little-long}
+use Rattle.lists.proofs.Parts.{part-at, part-after}
+use Rattle.lists.proofs.Tables.{joined-at}
+use Rattle.lists.proofs.Numbers.{little-long, little-part, little-drop, little-in, little-last}
 use Rattle.geometry.specs.Geometry.{pageOf}
 use Rattle.fields.specs.declared.Run.{Run}
 use Rattle.fields.specs.declared.Entry.{Entry}
 use Rattle.fields.specs.declared.Fields.{Fields}
 use Rattle.fields.specs.Fields.{noRun, noEntry, fieldsOf, runAt, entryAt}
 use Rattle.fields.specs.Rules.{countsRight, keepsRules}
-use Rattle.fields.proofs.Facts.{Counts, RunFacts, EntryFacts, Kept, kept}
+use Rattle.fields.proofs.Facts.{Kept}
 use Rattle.fields.proofs.PageLaws.{code-page, page-small}
-use Rattle.manifest.specs.Layout.{sizeOf, fixed, runBytes, entryBytes, trailerBytes, runBytesAt, entryBytesAt, encode, runIn, entryIn, runInAt, entryInAt, placed, fieldsAt}
-use Rattle.manifest.specs.Reader.{equal, trailerAt, runsIn, entriesIn, trailerRight, trailed, blank, blankAt, fieldsIn, accepts, readManifest}
+use Rattle.manifest.specs.Layout.{itemSize, sizeOf, fixed, runBytes, entryBytes, trailerBytes, runBytesAt, entryBytesAt, encode, runIn, entryIn, runInAt, entryInAt, placed, fieldsAt}
+use Rattle.manifest.specs.Reader.{equal, trailerAt, runsIn, entriesIn, trailerRight, blankAt, fieldsIn, accepts, readManifest}
 use Rattle.manifest.proofs.Places.{placed-is}
 use Rattle.manifest.proofs.Puts.{run-long, entry-long, runs-long, entries-long, encode-long}
 use Rattle.round.specs.Round.{Shaped}
-use Rattle.round.proofs.Laws.{part-after, joined-at, little-part, little-drop, little-in, little-last}
 
 -- ---- a run and an entry out of their bytes
 
@@ -72,11 +71,11 @@ module _ (f : Fields) where
 
   run-part : (k : ℕ) → k < f .r → part (encode f) (8 * k) 8 ≡ runBytes (runAt f k)
   unfolding encode
-  run-part k h = joined-at (f .r) (runBytesAt f) (es ++ tr) k (λ j. run-long _) h
+  run-part k h = joined-at itemSize (f .r) (runBytesAt f) (es ++ tr) k (λ j. run-long _) h
 
   entry-part : (k : ℕ) → k < f .e → part (encode f) (8 * f .r + 8 * k) 8 ≡ entryBytes (entryAt f k)
   unfolding encode
-  entry-part k h = part-after rs (es ++ tr) (8 * f .r) (8 * k) 8 (omega (arith, runs-long f)) ∙ joined-at (f .e) (entryBytesAt f) tr k (λ j. entry-long _) h
+  entry-part k h = part-after rs (es ++ tr) (8 * f .r) (8 * k) 8 (omega (arith, runs-long f)) ∙ joined-at itemSize (f .e) (entryBytesAt f) tr k (λ j. entry-long _) h
 
   tail : drop (8 * f .r + 8 * f .e) (encode f) ≡ tr
   unfolding encode

@@ -1,28 +1,28 @@
 -- Accepted bytes, read and written again, are the same bytes.
-use mathlib.Core.Path.{_≡_, refl, sym, ap, _∙_}
+use mathlib.Core.Path.{_≡_, sym, ap, _∙_}
 use mathlib.Core.Bool.{true, _&&_}
 use mathlib.Core.List.{List, [], _∷_, _++_}
 use Prim.Native.Nat.{ℕ, _+_, _-_, _*_, _≤_, _<_}
 use native.Mathlib.Nat.{add-assoc, zero-add}
 use native.Mathlib.Omega.{arith}
-use lib.Dec.{leb, eqb}
+use lib.Dec.{leb}
 use lib.ListN.{length, getD}
 use borrow.Author.Tests.{eqb-true}
 use Rattle.lists.specs.Below.{all-below, joined}
 use Rattle.lists.specs.Bytes.{part}
-use Rattle.lists.specs.Numbers.{little, littleAt}
+use Rattle.lists.specs.Numbers.{little}
 use Rattle.lists.proofs.Logic.{and-l, and-r}
 use Rattle.lists.proofs.All.{all-at}
-use Rattle.lists.proofs.Parts.{part-all, part-none}
+use Rattle.lists.proofs.Parts.{part-all, part-none, part-join, part-cons}
+use Rattle.lists.proofs.Tables.{joined-part}
 use Rattle.lists.proofs.Numbers.{little-again}
 use Rattle.fields.specs.Fields.{noRun, noEntry}
 use Rattle.fields.specs.Rules.{keepsRules}
-use Rattle.manifest.specs.Layout.{fixed, runBytes, entryBytes, trailerBytes, runBytesAt, entryBytesAt, encode, runIn, entryIn, runInAt, entryInAt, fieldsAt}
-use Rattle.manifest.specs.Reader.{trailerAt, runsIn, entriesIn, trailerRight, trailed, blank, blankAt, fieldsIn, accepts}
+use Rattle.manifest.specs.Layout.{itemSize, runBytes, entryBytes, trailerBytes, runBytesAt, entryBytesAt, encode, runIn, entryIn, runInAt, entryInAt, fieldsAt}
+use Rattle.manifest.specs.Reader.{trailerAt, runsIn, entriesIn, trailed, blank, blankAt, fieldsIn, accepts}
 use Rattle.manifest.proofs.Places.{placed-in}
 use Rattle.manifest.proofs.Steps.{Trailer, trailer-facts, Got, got}
 use Rattle.round.specs.Round.{Bytes}
-use Rattle.round.proofs.Laws.{part-join, part-cons, joined-part}
 
 -- ---- the parts of a run, of an entry and of the trailer
 
@@ -85,7 +85,7 @@ module _ (l : List ℕ) (b : Bytes l) (r e : ℕ) (g : Got l r e) (y : Trailer l
   runs-same : joined r (runBytesAt (fieldsAt l r e)) ≡ part l 0 (8 * r)
   unfolding fieldsAt
   runs-same =
-      joined-part l 0 r _ (λ k m.
+      joined-part itemSize l 0 r _ (λ k m.
       ap runBytes (placed-in 4 r (runInAt l) noRun noRun k m (g .few-runs))
       ∙ run-same l (8 * k) b (omega (arith, g .size)) (z k m)
       ∙ ap (λ (n : ℕ). part l n 8) (sym (zero-add (8 * k))))
@@ -93,7 +93,7 @@ module _ (l : List ℕ) (b : Bytes l) (r e : ℕ) (g : Got l r e) (y : Trailer l
   entries-same : joined e (entryBytesAt (fieldsAt l r e)) ≡ part l (8 * r) (8 * e)
   unfolding fieldsAt
   entries-same =
-      joined-part l (8 * r) e _ (λ k m.
+      joined-part itemSize l (8 * r) e _ (λ k m.
       ap entryBytes (placed-in 8 e (entryInAt l r) noEntry noEntry k m (g .few-entries)) ∙ entry-same l (8 * r + 8 * k) b (omega (arith, g .size)))
 
   end-same : trailerBytes r e ≡ part l (8 * r + 8 * e) 16

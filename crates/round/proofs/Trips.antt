@@ -1,13 +1,12 @@
 -- The theorems, as they are promised.
-use mathlib.Core.Path.{_≡_, refl, sym, ap, _∙_}
-use mathlib.Core.Bool.{Bool, true, false, false≢true}
+use mathlib.Core.Path.{_≡_, sym, ap, _∙_}
+use mathlib.Core.Bool.{true}
 use mathlib.Core.List.{List}
-use Prim.Native.Nat.{ℕ, _+_, _*_, _≤_}
+use Prim.Native.Nat.{ℕ, _≤_}
 use native.Mathlib.Omega.{arith}
 use lib.ListN.{length}
 use lib.Seq.{sets}
 use borrow.Author.Tests.{le-leb}
-use Rattle.lists.specs.Below.{pick}
 use Rattle.lists.specs.Bytes.{part}
 use Rattle.lists.proofs.Logic.{decided}
 use Rattle.lists.proofs.Parts.{part-sets}
@@ -20,7 +19,7 @@ use Rattle.manifest.specs.Reader.{runsIn, entriesIn, fieldsIn, accepts, refused
 use Rattle.manifest.specs.Writer.{outcomeOf, Wrote, wrote, writeManifest}
 use Rattle.manifest.proofs.Places.{placed-long}
 use Rattle.manifest.proofs.Puts.{encode-long}
-use Rattle.round.specs.Round.{Bytes, Shaped, took, ReadThenWritten, WrittenThenRead, Encoding, AcceptsExactly, OneSpelling, Lengths}
+use Rattle.round.specs.Round.{Bytes, Shaped, ReadThenWritten, WrittenThenRead, AcceptsExactly, OneSpelling, Lengths}
 use Rattle.round.proofs.Rewritten.{accepted, written-again}
 use Rattle.round.proofs.Reread.{accepted-again, read-again}
 

@@ -11,7 +11,7 @@ use Rattle.fields.specs.Fields.{runPlaces, entryPlaces}
 use Rattle.fields.specs.Rules.{keepsRules}
 use Rattle.manifest.specs.Layout.{sizeOf, encode}
 use Rattle.manifest.specs.Reader.{runsIn, entriesIn, fieldsIn, accepts, readManifest}
-use Rattle.manifest.specs.Writer.{Outcome, outcomeOf, Wrote, writeManifest}
+use Rattle.manifest.specs.Writer.{Outcome, outcomeOf, writeManifest}
 
 -- every element is a byte
 abbrev pub Bytes : List ℕ → Type 0

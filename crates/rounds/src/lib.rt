@@ -129,8 +129,12 @@ fn schedule(b: &[u8]) -> [u32; ROUNDS]
     }
     let mut n: usize = 0;
     while n < LATER {
-        w[n + FIRST] = rotl1(w[n + 13] ^ w[n + 8] ^ w[n + 2] ^ w[n]);
-        n += 1;
+        // LLVM writes out the turns of a loop whose number it knows: words that are soon read again stay in registers.
+        let end = n + FIRST;
+        while n < end {
+            w[n + FIRST] = rotl1(w[n + 13] ^ w[n + 8] ^ w[n + 2] ^ w[n]);
+            n += 1;
+        }
     }
     w
 }

@@ -1,26 +1,23 @@
 -- What start gives is well formed.
-use Prim.Native.Nat.{ℕ, _+_, _-_, _*_, _≤_, _<_}
+use Prim.Native.Nat.{ℕ, _-_, _*_, _<_}
 use native.Mathlib.Omega.{arith}
 use mathlib.Core.Path.{_≡_, refl, sym, ap, _∙_}
-use mathlib.Core.Bool.{Bool, true, false, false≢true}
-use mathlib.Core.List.{List, map}
-use mathlib.Core.Logic.{_⊎_, ⊎-elim}
+use mathlib.Core.Bool.{true, false, false≢true}
+use mathlib.Core.List.{List}
 use lib.ListN.{getD, replicate, getD-replicate}
-use lib.Dec.{leb, ltb, eqb}
-use borrow.Author.Tests.{le-leb, lt-ltb, le-ltb}
-use Rattle.lists.specs.Below.{pick, any-below, table}
-use Rattle.lists.proofs.Logic.{decided, lt-or-ge, pick-true, pick-false}
+use borrow.Author.Tests.{lt-ltb, le-ltb}
+use Rattle.lists.specs.Below.{table}
+use Rattle.lists.proofs.Logic.{decided}
 use Rattle.lists.proofs.Tables.{table-at}
 use Rattle.geometry.specs.Geometry.{pageSize, mostPages, slotCount}
 use Rattle.fields.specs.Pages.{hasPage}
-use Rattle.state.specs.declared.State.{State}
 use Rattle.state.specs.declared.Card.{Card}
 use Rattle.state.specs.declared.Slot.{Slot}
-use Rattle.state.specs.Zero.{zeroCard, zeroSlot, zeroState, noSlot, noCard}
-use Rattle.state.specs.Face.{Face, faceOf, pcrsOf, cardOf, cardAt, topOf, ownerAt}
+use Rattle.state.specs.Zero.{zeroCard, zeroSlot, noSlot}
+use Rattle.state.specs.Face.{Face, faceOf, pcrsOf, cardOf, cardAt, ownerAt}
 use Rattle.state.proofs.Faces.{card-at, pcrs-at}
-use Rattle.wellformed.specs.WellFormed.{sizesRight, monitors, cardRight, holdsAt, pcrsZero, faceRight, stateRight, wellFormed}
-use Rattle.wellformed.proofs.Facts.{Sizes, sizes-hold, sizes-of, Right, of-right, zero-holds}
+use Rattle.wellformed.specs.WellFormed.{sizesRight, cardRight, holdsAt, pcrsZero, faceRight, stateRight}
+use Rattle.wellformed.proofs.Facts.{Sizes, sizes-hold, sizes-of, of-right, zero-holds}
 use Rattle.wellformed.proofs.Zeros.{zero-card, zero-card-right, zero-pcrs}
 use Rattle.wellformed.proofs.Runs.{zero-running}
 use Rattle.wellformed.proofs.States.{of-pcrs, of-state, of-well}

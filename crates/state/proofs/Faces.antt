@@ -1,14 +1,13 @@
 -- Face and µPCRs make the state, and the state has them back; setting one slot of it.
-use Prim.Native.Nat.{ℕ, zero, suc, _<_}
+use Prim.Native.Nat.{ℕ, _<_}
 use native.Mathlib.Omega.{arith}
 use native.Mathlib.Decide.{ℕ-discrete}
-use mathlib.Core.Path.{_≡_, refl, sym, ap, _∙_}
-use mathlib.Core.Logic.{_≢_}
-use mathlib.Core.List.{List, [], _∷_, _++_, map}
+use mathlib.Core.Path.{_≡_, sym, ap, _∙_}
+use mathlib.Core.List.{List, [], map}
 use lib.ListN.{length, getD, set, length-set, length-map, List·getD-map}
-use lib.Seq.{ext-getD, getD-set-same, getD-set-other, set-getD}
+use lib.Seq.{ext-getD, getD-set-same, getD-set-other}
 use Rattle.lists.specs.Below.{table}
-use Rattle.lists.proofs.Tables.{table-long, table-at, table-same, table-of}
+use Rattle.lists.proofs.Tables.{table-long, table-at, table-same, table-of, map-table}
 use Rattle.geometry.specs.Geometry.{slotCount}
 use Rattle.sha1.specs.declared.Digest.{Digest}
 use Rattle.state.specs.declared.Card.{Card}
@@ -37,12 +36,6 @@ slots-back xs e =
 pub state-back : (s : State) → length (s .slots) ≡ slotCount → stateOf (faceOf s) (pcrsOf s) ≡ s
 unfolding stateOf
 state-back s e = ap (λ (xs : List Slot). record { pages = s .pages; kept = s .kept; owner = s .owner; slots = xs; mode = s .mode; running = s .running }) (slots-back (s .slots) e)
-
-map-table : {A B : Type 0} (g : A → B) (v : ℕ → A) (a : A) (n : ℕ) → map g (table v n) ≡ table (λ k. g (v k)) n
-map-table g v a n =
-    ext-getD (g a) (map g (table v n)) (table (λ k. g (v k)) n) (length-map (table v n) g ∙ table-long v n ∙ sym (table-long (λ k. g (v k)) n))
-    (λ i l. let b : i < n = rw (length-map (table v n) g, table-long v n) at l in
-    List·getD-map g (table v n) i a ∙ ap g (table-at v n i a b) ∙ sym (table-at (λ k. g (v k)) n i (g a) b))
 
 cards-back : (cards : List Card) (pcrs : List (List Digest)) → length cards ≡ slotCount → map cardOf (table (slotOf cards pcrs) slotCount) ≡ cards
 cards-back cards pcrs e = map-table cardOf (slotOf cards pcrs) noSlot slotCount ∙ sym (table-of cards noCard slotCount e)
@@ -88,9 +81,3 @@ pub state-set : (s : State) (k : ℕ) (x : Slot) → length (s .slots) ≡ slotC
 state-set s k x e l =
     slots-set (map cardOf (s .slots)) (map pcrsIn (s .slots)) k (x .card) (x .pcrs) (length-map (s .slots) cardOf ∙ e) (length-map (s .slots) pcrsIn ∙ e) l
     ∙ ap (λ (xs : List Slot). set xs k x) (slots-back (s .slots) e)
-
--- a map over a list with one element set
-pub map-set : {A B : Type 0} (g : A → B) (xs : List A) (k : ℕ) (x : A) → map g (set xs k x) ≡ set (map g xs) k (g x)
-map-set g [] k x = refl
-map-set g (y ∷ xs) zero x = refl
-map-set g (y ∷ xs) (suc k) x = ap (λ (l : _). g y ∷ l) (map-set g xs k x)

@@ -1,8 +1,8 @@
 -- A value that owning tells of (`c .good`, a call's `.ok`) has its type's shape.
-use Prim.Native.Nat.{ℕ, zero, suc, _<_, _^_}
+use Prim.Native.Nat.{ℕ}
 use mathlib.Core.Path.{_≡_, sym, _∙_}
 use mathlib.Core.List.{List, [], _∷_, map}
-use lib.ListN.{length, getD, length-map}
+use lib.ListN.{length, length-map}
 use mir.Val.{Val}
 use denote.Shadow.{shadow}
 use denote.Laws.{Is}

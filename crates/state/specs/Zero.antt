@@ -3,7 +3,6 @@ use mathlib.Core.Bool.{false}
 use mathlib.Core.List.{[]}
 use lib.ListN.{replicate}
 use Rattle.geometry.specs.Geometry.{slotCount, pcrCount, digestSize, mostPages}
-use Rattle.lists.specs.Bytes.{zeros}
 use Rattle.sha1.specs.declared.Digest.{Digest}
 use Rattle.fields.specs.Fields.{zeroFields, noFields}
 use Rattle.state.specs.declared.Card.{Card}

@@ -1,6 +1,6 @@
 -- The ends of the rules that leave the state: which plan they come to.
 use Prim.Native.Nat.{ℕ}
-use mathlib.Core.Path.{_≡_, refl, sym, subst, _∙_}
+use mathlib.Core.Path.{_≡_, refl, sym, _∙_}
 use mathlib.Core.Bool.{Bool, true, false}
 use mathlib.Core.List.{List}
 use lib.ListN.{length}
@@ -13,8 +13,6 @@ use Rattle.state.specs.declared.State.{State}
 use Rattle.state.proofs.Faces.{state-back}
 use Rattle.events.specs.declared.Answer.{Answer}
 use Rattle.touch.specs.Carried.{Steps}
-use Rattle.touch.specs.declared.Stepped.{Stepped}
-use Rattle.sha1.specs.declared.Digest.{Digest}
 use Rattle.events.specs.declared.Answer.the-variants as answer
 use Rattle.rules.specs.Plan.{Fetch, nothing, bytes, pcr, keep, put, same, Plan, refuse, guard, still}
 use Rattle.rules.specs.Tests.{Access, device, mayReach, inRange}
@@ -83,13 +81,3 @@ device-open f p (Secure k) = refl
 pub still-steps : (s : State) → length (s .slots) ≡ slotCount → (x : Fetch) (a : Answer) (payload m : List ℕ)
     → Steps (still (faceOf s) x keep same a) payload (pcrsOf s) m (record { answer = a; state = s }) m
 still-steps s e x a payload m = record { answer = refl; state = sym (state-back s e); memory = refl }
-
--- the mode that the state has is the one that was matched
-pub in-mode : (P : Mode → Plan) (payload : List ℕ) (pcrs : List (List Digest)) (m : List ℕ) {r : Stepped} {m′ : List ℕ} {x y : Mode}
-    → x ≡ y → Steps (P y) payload pcrs m r m′ → Steps (P x) payload pcrs m r m′
-in-mode P payload pcrs m {r} {m′} e h = subst (λ (z : Mode). Steps (P z) payload pcrs m r m′) (sym e) h
-
--- the same plan, told otherwise
-pub to-plan : {p q : Plan} → p ≡ q → (payload : List ℕ) (pcrs : List (List Digest)) (m : List ℕ) {r : Stepped} {m′ : List ℕ}
-    → Steps p payload pcrs m r m′ → Steps q payload pcrs m r m′
-to-plan e payload pcrs m {r} {m′} h = subst (λ (z : Plan). Steps z payload pcrs m r m′) e h

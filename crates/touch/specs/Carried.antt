@@ -45,7 +45,3 @@ pub record Steps (p : Plan) (payload : List ℕ) (pcrs : List (List Digest)) (m 
   pub answer : r .answer ≡ p .answer
   pub state : r .state ≡ stateOf (p .next) (sealed (p .seal) payload m pcrs)
   pub memory : m′ ≡ stored (p .store) payload m
-
--- whatever the payload
-abbrev pub Acts : Plan → State → List ℕ → Stepped → List ℕ → Type 0
-Acts p s m r m′ = (payload : List ℕ) → Steps p payload (pcrsOf s) m r m′

@@ -6,7 +6,6 @@
 //   bytes 12 on  a digest, or the name of a line, with spaces
 ghost use Prim.Native.Nat.{_≤_, _<_};
 ghost use lib.ListN.{length};
-ghost use mathlib.Core.Path.{_≡_};
 use geometry::Geometry;
 use libc::STDIN_FILENO;
 use libc::STDOUT_FILENO;

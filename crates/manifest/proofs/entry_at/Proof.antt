@@ -1,6 +1,5 @@
 use Rattle.manifest.proofs.Steps.{entry-is, entry-bad}
-use mathlib.Core.Path.{_≡_, refl, sym, _∙_, ap}
-use Rattle.manifest.specs.Reader.{entryOf}
+use mathlib.Core.Path.{sym, _∙_}
 use borrow.Author.Needs.{needs}
 use Rattle.manifest.proofs.entry_at.Statement.{statement}
 use Rattle.manifest.proofs.entry_at.Tie as tie

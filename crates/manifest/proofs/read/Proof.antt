@@ -3,7 +3,7 @@ use Rattle.lists.specs.Below.{table}
 use Rattle.manifest.proofs.Places.{placed-none, placed-back, placed-end, down-more}
 use Rattle.fields.specs.Fields.{noRun, noEntry}
 use mathlib.Core.Bool.{true}
-use mathlib.Core.Path.{_≡_, refl, sym, _∙_, ap}
+use mathlib.Core.Path.{_≡_, sym, _∙_}
 use Prim.Native.Nat.{ℕ, _≤_, _<_, _-_, _+_, _*_}
 use Rattle.manifest.specs.Reader.{blankAt}
 use Rattle.manifest.specs.Layout.{placed, entryInAt, runInAt}

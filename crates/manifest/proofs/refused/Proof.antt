@@ -1,4 +1,4 @@
-use mathlib.Core.Path.{_≡_, refl, sym, _∙_, ap}
+use mathlib.Core.Path.{refl}
 use Rattle.manifest.specs.Reader.{refusedReading}
 use Rattle.manifest.proofs.refused.Statement.{statement}
 use Rattle.manifest.proofs.refused.Tie as tie

@@ -1,7 +1,5 @@
 use lib.ListN.{getD}
 use Rattle.manifest.proofs.Steps.{run-is, run-bad}
-use mathlib.Core.Path.{_≡_, refl, sym, _∙_, ap}
-use Rattle.manifest.specs.Reader.{runOf}
 use borrow.Author.Needs.{needs}
 use Rattle.manifest.proofs.run_at.Statement.{statement}
 use Rattle.manifest.proofs.run_at.Tie as tie

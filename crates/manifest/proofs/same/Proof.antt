@@ -1,4 +1,4 @@
-use mathlib.Core.Path.{_≡_, refl, sym, _∙_, ap}
+use mathlib.Core.Path.{refl}
 use Rattle.manifest.proofs.Equal.{equal-is}
 use borrow.Author.Needs.{needs}
 use Rattle.manifest.proofs.same.Statement.{statement}

@@ -1,11 +1,11 @@
 use Rattle.manifest.specs.Layout.{fixed}
 use Rattle.manifest.specs.Reader.{trailerAt, equal}
-use Prim.Native.Nat.{ℕ, _≤_, _<_, _-_, _+_, _*_}
+use Prim.Native.Nat.{ℕ, _-_, _+_}
 use mathlib.Core.List.{List}
 use Rattle.lists.proofs.Parts.{part-lent}
 use Rattle.manifest.proofs.Steps.{trailer-test, trailer-is, trailer-bad, trailer-short}
 use native.Mathlib.Omega.{arith}
-use mathlib.Core.Path.{_≡_, refl, sym, _∙_, ap}
+use mathlib.Core.Path.{refl, _∙_, ap}
 use borrow.Author.Needs.{needs}
 use Rattle.manifest.proofs.trailer.Statement.{statement}
 use Rattle.manifest.proofs.trailer.Tie as tie

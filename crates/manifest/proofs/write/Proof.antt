@@ -6,9 +6,9 @@ use Rattle.fields.proofs.Facts.{Counts, kept}
 use Rattle.fields.specs.Rules.{keepsRules}
 use mathlib.Core.Bool.{true}
 use lib.ListN.{length}
-use Prim.Native.Nat.{ℕ, _≤_, _<_, _-_, _+_, _*_}
+use Prim.Native.Nat.{_-_}
 use native.Mathlib.Omega.{arith}
-use mathlib.Core.Path.{_≡_, refl, sym, _∙_, ap}
+use mathlib.Core.Path.{_≡_, sym, _∙_, ap}
 use borrow.Author.Needs.{needs}
 use Rattle.manifest.proofs.write.Statement.{statement}
 use Rattle.manifest.proofs.write.Tie as tie

@@ -2,9 +2,6 @@ use borrow.Author.Needs.{needs}
 use native.Mathlib.Omega.{arith}
 use Rattle.manifests.proofs.main.Statement.{statement}
 use Rattle.manifests.proofs.main.Tie as tie
-use Rattle.manifests.proofs.main.Reads as reads
-use Rattle.manifests.proofs.main.Lts as lts
-use Rattle.manifests.proofs.one.Reads as one-reads
 
 abbrev Inv-loop : tie.InvT-loop
 Inv-loop turns₀ turns = Unit {0}

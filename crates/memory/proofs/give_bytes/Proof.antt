@@ -1,5 +1,5 @@
 use native.Mathlib.Omega.{arith}
-use mathlib.Core.Path.{_≡_, ap, _∙_}
+use mathlib.Core.Path.{ap, _∙_}
 use lib.Seq.{sets}
 use Rattle.lists.proofs.Parts.{part-lent}
 use borrow.Author.Needs.{needs}

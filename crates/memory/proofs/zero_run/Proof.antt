@@ -1,4 +1,4 @@
-use mathlib.Core.Path.{_≡_, sym, _∙_}
+use mathlib.Core.Path.{sym, _∙_}
 use Rattle.lists.proofs.Pages.{wipe-run}
 use borrow.Author.Needs.{needs}
 use Rattle.memory.proofs.zero_run.Statement.{statement}

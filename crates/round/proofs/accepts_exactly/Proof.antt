@@ -1,8 +1,6 @@
 use Rattle.round.proofs.Trips.{accepts-exactly}
 use Rattle.round.proofs.accepts_exactly.Statement.{statement}
 use Rattle.round.proofs.accepts_exactly.Tie as tie
-use Rattle.round.proofs.accepts_exactly.Reads as reads
-use Rattle.round.proofs.accepts_exactly.Lts as lts
 
 returns : tie.Need-returns
 returns c = accepts-exactly

@@ -8,8 +8,6 @@ use Rattle.manifest.specs.Reader.{trailerRight, accepts, refusedReading, readMa
 use Rattle.round.specs.Examples.{allRight, manifestExamples, long}
 use Rattle.round.proofs.examples.Statement.{statement}
 use Rattle.round.proofs.examples.Tie as tie
-use Rattle.round.proofs.examples.Reads as reads
-use Rattle.round.proofs.examples.Lts as lts
 
 returns : tie.Need-returns
 unfolding allRight manifestExamples long little littleAt part placed table all-below any-below sum-below countsRight runsRise pagesFew someCode oneParam runsRight inCode entriesRise entriesRight unusedZero keepsRules fieldsAt trailerRight accepts refusedReading readManifest

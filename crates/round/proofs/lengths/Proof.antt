@@ -1,8 +1,6 @@
 use Rattle.round.proofs.Trips.{lengths}
 use Rattle.round.proofs.lengths.Statement.{statement}
 use Rattle.round.proofs.lengths.Tie as tie
-use Rattle.round.proofs.lengths.Reads as reads
-use Rattle.round.proofs.lengths.Lts as lts
 
 returns : tie.Need-returns
 returns c = lengths

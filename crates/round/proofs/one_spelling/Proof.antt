@@ -1,8 +1,6 @@
 use Rattle.round.proofs.Trips.{one-spelling}
 use Rattle.round.proofs.one_spelling.Statement.{statement}
 use Rattle.round.proofs.one_spelling.Tie as tie
-use Rattle.round.proofs.one_spelling.Reads as reads
-use Rattle.round.proofs.one_spelling.Lts as lts
 
 returns : tie.Need-returns
 returns c = one-spelling

@@ -1,8 +1,6 @@
 use Rattle.round.proofs.Trips.{read-then-written}
 use Rattle.round.proofs.read_then_written.Statement.{statement}
 use Rattle.round.proofs.read_then_written.Tie as tie
-use Rattle.round.proofs.read_then_written.Reads as reads
-use Rattle.round.proofs.read_then_written.Lts as lts
 
 returns : tie.Need-returns
 returns c = read-then-written

@@ -1,8 +1,6 @@
 use Rattle.round.proofs.Trips.{written-then-read}
 use Rattle.round.proofs.written_then_read.Statement.{statement}
 use Rattle.round.proofs.written_then_read.Tie as tie
-use Rattle.round.proofs.written_then_read.Reads as reads
-use Rattle.round.proofs.written_then_read.Lts as lts
 
 returns : tie.Need-returns
 returns c = written-then-read

@@ -10,7 +10,7 @@ finished-requires : tie.Need-finished-requires
 finished-requires c κs = search needs
 
 returns : tie.Need-returns
-returns c = cc (hashed _)
+returns c = cc (hashed (c .before .before .before .args .part .now))
 
 pub hash-spec : {M : Type 1} → statement M
 hash-spec = tie.close (tie.spec start-requires finished-requires returns)

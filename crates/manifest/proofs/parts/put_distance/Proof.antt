@@ -1,7 +1,7 @@
 use lib.Seq.{sets}
 use Rattle.manifest.proofs.Puts.{distance-bytes}
 use native.Mathlib.Omega.{arith}
-use mathlib.Core.Path.{_≡_, refl, sym, _∙_, ap}
+use mathlib.Core.Path.{sym, _∙_, ap}
 use borrow.Author.Needs.{needs}
 use Rattle.manifest.proofs.parts.put_distance.Statement.{statement}
 use Rattle.manifest.proofs.parts.put_distance.Tie as tie

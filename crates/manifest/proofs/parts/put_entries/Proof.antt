@@ -5,9 +5,8 @@ use Rattle.lists.specs.Below.{joined}
 use mathlib.Core.List.{[]}
 use lib.ListN.{length}
 use lib.Seq.{sets}
-use Prim.Native.Nat.{ℕ, _≤_, _<_, _-_, _+_, _*_}
-use mathlib.Core.Path.{_≡_, refl, sym, _∙_, ap}
-use borrow.Author.Needs.{needs}
+use Prim.Native.Nat.{ℕ, _≤_, _-_, _+_, _*_}
+use mathlib.Core.Path.{_≡_, refl, _∙_, ap}
 use native.Mathlib.Omega.{arith}
 use Rattle.manifest.proofs.parts.put_entries.Statement.{statement}
 use Rattle.manifest.proofs.parts.put_entries.Tie as tie

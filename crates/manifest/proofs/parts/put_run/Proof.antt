@@ -1,6 +1,6 @@
 use lib.Seq.{sets}
 use Rattle.manifest.proofs.Puts.{run-bytes}
-use mathlib.Core.Path.{_≡_, refl, sym, _∙_, ap}
+use mathlib.Core.Path.{sym, _∙_, ap}
 use borrow.Author.Needs.{needs}
 use Rattle.manifest.proofs.parts.put_run.Statement.{statement}
 use Rattle.manifest.proofs.parts.put_run.Tie as tie

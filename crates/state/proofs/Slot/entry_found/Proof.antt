@@ -1,8 +1,8 @@
 use Prim.Native.Nat.{_≤_, _-_}
 use native.Mathlib.Omega.{arith}
 use borrow.Author.Needs.{needs}
-use borrow.Author.Tests.{lt-ltb, le-ltb}
-use mathlib.Core.Path.{_≡_, refl}
+use borrow.Author.Tests.{lt-ltb}
+use mathlib.Core.Path.{_≡_}
 use Rattle.lists.specs.Below.{first-below}
 use Rattle.lists.proofs.First.{first-none, first-more, first-hit, first-end}
 use Rattle.state.specs.Slots.{beginsAt, entryFound}
