@@ -27,8 +27,8 @@ use types.Run.{look, look-raw, init, store-raw, forget, stop, hop, fld, from, lo
 use types.Part.{agg, whole, sub, look-in}
 use types.SemTy.{Body}
 use sound.WpLaws.{FmC, fmOf, WpFn-mono}
-use denote.RattleType.{owns}
-use denote.Laws.{Is, shows}
+use denote.RattleType.{RattleType, owns}
+use denote.Laws.{Is, Tells, shows}
 use denote.Memory.{mem}
 use denote.Builtin.{u8}
 use denote.Ref.{RefT, MutRef, ptr-vals, mut-tells}
@@ -82,8 +82,8 @@ stayed = (stay-ref (0 ∷ []) tt (plain (λ _. T.the-row)), (stay-none (λ _. E0
 abbrev vals : Monitor → List Val
 vals = LL.vals T.the-type T′.the-laws
 
-abbrev valsD : Change → List Val
-valsD = LL.vals D.the-type D′.the-laws
+abbrev change-vals : Change → List Val
+change-vals = LL.vals D.the-type D′.the-laws
 
 abbrev typeOf : List Local → ℕ → Ty
 typeOf [] k = tyBool
@@ -98,12 +98,9 @@ abbrev τ : ℕ → Ty
 abbrev rest : Code
 rest = seq (assign (place 0 []) (rvOpd (copy (place 7 (field 1 ∷ []))))) return
 
--- of a value that lies in one place, in the words that its fields are spelt in
-spelled : (t : Monitor) (vs : List Val) → Is T.the-row t vs → Is T.the-row t (vals t)
-spelled t vs is = subst (λ (us : List Val). Is T.the-row t us) (LL.tells T.the-type T′.the-laws t vs is) is
-
-hear-spelled : (r : Heard) (vs : List Val) → Is R.the-row r vs → Is R.the-row r (LL.vals R.the-type R′.the-laws r)
-hear-spelled r vs is = subst (λ (us : List Val). Is R.the-row r us) (LL.tells R.the-type R′.the-laws r vs is) is
+-- what is known of a value at some words is known at its own
+spelled : (R : RattleType) (of : R .Denot → List Val) → Tells R (Is R) of → (x : R .Denot) (vs : List Val) → Is R x vs → Is R x (of x)
+spelled R of tells x vs is = subst (λ (us : List Val). Is R x us) (tells x vs is) is
 
 fails : (y : Bool) → T (not y) → y ≡ false
 fails true z = absurd z
@@ -135,6 +132,7 @@ module _ {M : Type 1} (𝓤 : URA M) (H : Heap 𝓤) (A : Atoms 𝓤) (W : Given
   abbrev Left : Reply → Monitor → List ℕ → List ℕ → Type 0
   Left reply t memoryz bufferz = hosted reply t memoryz bufferz ≡ hostStep h q payload memory buffer
 
+  -- what is left of the borrows, before the locals
   abbrev had : Monitor → List ℕ → List ℕ → List (Item 𝓤) → List (Item 𝓤)
   had t memoryz bufferz Γ = ‵ (fobs γ (T.the-row .coded .code t)) ∷ ‵ (fbor κ0 (Body (mem T.the-row) b o γ)) ∷ ‵ (flft κ0 q0) ∷ (‵ (flft κ1 q1) ⊛ ‵ (flft κ2 q2) ⊛ ‵ (flft κ3 q3) ⊛ ‵ ftrue) ∷ ‵ (finally u8 buffer-γ bufferz) ∷ ‵ (finally u8 memory-γ memoryz) ∷ ‵ (ShrSlice (named 1) κ1 u8 .own (record { ptr = (payload-b, payload-o); name = payload-γ; now = payload }) (sliceVal (payload-b, payload-o) (length payload) ∷ [])) ∷ Γ
 
@@ -147,7 +145,7 @@ module _ {M : Type 1} (𝓤 : URA M) (H : Heap 𝓤) (A : Atoms 𝓤) (W : Given
       move ! (2 ∷ 0 ∷ []) $ fjoin ! $ move ! (2 ∷ 0 ∷ []) $ fjoin ! $ move ! (2 ∷ 0 ∷ []) $ fjoin ! $ owned ! E0.the-row (Is E0.the-row) ((LL.makes E0.the-type E0′.the-plain) 𝓤 H A) q _ q-is $ fjoin ! $ move ! (1 ∷ 0 ∷ []) $ fjoin ! $
       owned ! Q.the-row (Is Q.the-row) ((LL.makes Q.the-type Q′.the-plain) 𝓤 H A) reply _ fits $ move ! (1 ∷ 0 ∷ []) $ done !
 
-  -- what the callee's triple binds outside, and what it asks
+  -- what the callees' triples bind outside, and what they ask
   abbrev args : (Monitor × (Request × (RefT (List ℕ) × (RefT (List ℕ) × (RefT (List ℕ) × Unit {0})))))
   args = (h, x .1)
 
@@ -158,10 +156,10 @@ module _ {M : Type 1} (𝓤 : URA M) (H : Heap 𝓤) (A : Atoms 𝓤) (W : Given
   goes-g = qed W ((‵ (flft κ1 q1) ⊛ ‵ (flft κ2 q2) ⊛ ‵ (flft κ3 q3) ⊛ ‵ ftrue) ∷ ‵ (owns (T.the-row ∷ E0.the-row ∷ ShrSlice (named 1) κ1 u8 ∷ MutSlice (named 2) κ2 u8 ∷ MutSlice (named 3) κ3 u8 ∷ []) args (vals h, at .1)) ∷ []) ∵ join ! $ frame ! $ done !
 
   abbrev to-n : Change → N 𝓤 H A at-mem run .Ghost
-  to-n c = ((tt, tt, tt, (h, (c, tt)), (vals h, (valsD c, tt))), tt)
+  to-n c = ((tt, tt, tt, (h, (c, tt)), (vals h, (change-vals c, tt))), tt)
 
-  goes-n : (c : Change) → Fits (openedOf h) (c .turn) (c .fields) → ent 𝓤 (sep 𝓤 (sem 𝓤 H A ftrue) (sem 𝓤 H A (owns (T.the-row ∷ D.the-row ∷ []) (h, (c, tt)) (vals h, (valsD c, tt))))) (N 𝓤 H A at-mem run .pre (to-n c))
-  goes-n c fits = qed W (‵ ftrue ∷ ‵ (owns (T.the-row ∷ D.the-row ∷ []) (h, (c, tt)) (vals h, (valsD c, tt))) ∷ []) ∵ says ! fits $ done !
+  goes-n : (c : Change) → Fits (openedOf h) (c .turn) (c .fields) → ent 𝓤 (sep 𝓤 (sem 𝓤 H A ftrue) (sem 𝓤 H A (owns (T.the-row ∷ D.the-row ∷ []) (h, (c, tt)) (vals h, (change-vals c, tt))))) (N 𝓤 H A at-mem run .pre (to-n c))
+  goes-n c fits = qed W (‵ ftrue ∷ ‵ (owns (T.the-row ∷ D.the-row ∷ []) (h, (c, tt)) (vals h, (change-vals c, tt))) ∷ []) ∵ says ! fits $ done !
 
   module _ (C : Calls 𝓤 H) (Λ : Loops 𝓤 H) (l0 l1 l2 l3 l4 l5 l6 l7 l8 l9 l10 l11 l12 l13 l14 : ℕ) where
     abbrev En : Env 𝓤 H
@@ -192,7 +190,7 @@ module _ {M : Type 1} (𝓤 : URA M) (H : Heap 𝓤) (A : Atoms 𝓤) (W : Given
         assigns ! (agg ! (and-then ! (load ! (from ! (stop !)) (look ! 14 refl)) (and-then ! (load ! (from ! (fld ! refl (stop !))) (look-in ! 26 (sub ! 1 refl (whole !)))) (no-more !)))) (from ! (stop !)) (init ! 12 refl (tt, (tt, (record { fits = memory-room .0 }, tt)))) $
         assigns ! (addr ! (from ! (fld ! refl (hop ! (look-in ! 24 (sub ! 0 refl (whole !))) (stop !))))) (from ! (stop !)) (init ! 10 refl (tt, tt)) $
         assigns ! (agg ! (and-then ! (load ! (from ! (stop !)) (look ! 10 refl)) (and-then ! (load ! (from ! (fld ! refl (stop !))) (look-in ! 24 (sub ! 1 refl (whole !)))) (no-more !)))) (from ! (stop !)) (init ! 8 refl (tt, (tt, (record { fits = buffer-room .0 }, tt)))) $
-        -- the call
+        -- the call of `hear`
         move ! (5 ∷ []) $ fsplit ! $ drop ! $ fsplit ! $ use1 W (‵ (ShrSlice (named 1) κ1 u8 .own (record { ptr = (payload-b, payload-o); name = payload-γ; now = payload }) (sliceVal (payload-b, payload-o) (length payload) ∷ [])) ⊛ ‵ (ShrSlice (named 1) κ1 u8 .own (record { ptr = (payload-b, payload-o); name = payload-γ; now = payload }) (sliceVal (payload-b, payload-o) (length payload) ∷ []))) (shr-slice-copy 𝓤 H A W (named 1) κ1 u8 .twice (record { ptr = (payload-b, payload-o); name = payload-γ; now = payload }) (sliceVal (payload-b, payload-o) (length payload) ∷ [])) $ split ! $ move ! (2 ∷ []) $ fsplit ! $ move ! (1 ∷ []) $ fsplit ! $ move ! (1 ∷ []) $
         move ! (1 ∷ 0 ∷ []) $ fjoin ! $ move ! (1 ∷ 0 ∷ []) $ fjoin ! $ move ! (1 ∷ 0 ∷ []) $ fjoin ! $ owned ! E0.the-row (Is E0.the-row) ((LL.makes E0.the-type E0′.the-plain) 𝓤 H A) q _ q-is $ fjoin ! $ owned ! T.the-row (Is T.the-row) ((LL.makes T.the-type T′.the-plain) 𝓤 H A) h _ was $ fjoin ! $ move ! (6 ∷ 0 ∷ []) $ use2 W (raw (G 𝓤 H A at-mem run .pre to-g)) goes-g $
         calls-at ! fm (G 𝓤 H A at-mem run) known to-g (and-then ! (load ! (from ! (stop !)) (look ! 22 refl)) (and-then ! (load ! (from ! (stop !)) (look ! 30 refl)) (and-then ! (load ! (from ! (stop !)) (look ! 28 refl)) (and-then ! (load ! (from ! (stop !)) (look ! 12 refl)) (and-then ! (load ! (from ! (stop !)) (look ! 8 refl)) (no-more !)))))) (λ w.
@@ -214,16 +212,14 @@ module _ {M : Type 1} (𝓤 : URA M) (H : Heap 𝓤) (A : Atoms 𝓤) (W : Given
         split ! $ drop ! $ heard ! (t ≡ renewedBy h (r .change)) (λ new. split ! $ drop ! $ peeks ! T.the-row (Is T.the-row) (shows 𝓤 H A T.the-row) t (u ∷ []) (λ t-is. drop ! $
         land ! (from ! (stop !)) (init ! 18 refl (LL.lawful T.the-type T′.the-laws 𝓤 H A W .typed t _ t-is .0)) $
         rewrite ! 18 (λ (v : Val). ‵ (fat fullShare T′.mir l9 0 v)) (ap only (LL.tells T.the-type T′.the-laws t _ t-is)) refl $
-        assigns-last ! (of-opd ! (load ! (from ! (stop !)) (look ! 18 refl))) (from ! (hop ! (look ! 34 refl) (stop !))) (store-raw ! 4 refl (LL.lawful T.the-type T′.the-laws 𝓤 H A W .typed t (vals t) (spelled t _ t-is) .0)) $
+        assigns-last ! (of-opd ! (load ! (from ! (stop !)) (look ! 18 refl))) (from ! (hop ! (look ! 34 refl) (stop !))) (store-raw ! 4 refl (LL.lawful T.the-type T′.the-laws 𝓤 H A W .typed t (vals t) (spelled T.the-row vals (LL.tells T.the-type T′.the-laws) t _ t-is) .0)) $
         exec ! C Λ (En C Λ l0 l1 l2 l3 l4 l5 l6 l7 l8 l9 l10 l11 l12 l13 l14) rest (atRet (En C Λ l0 l1 l2 l3 l4 l5 l6 l7 l8 l9 l10 l11 l12 l13 l14) Post) $ forget ! 18 refl $ forget ! 20 refl $
-        owned ! T.the-row (Is T.the-row) ((LL.makes T.the-type T′.the-plain) 𝓤 H A) t (vals t) (spelled t _ t-is) $ move ! (5 ∷ 0 ∷ 6 ∷ 7 ∷ 8 ∷ []) $ closes ! tt T.the-row t (vals t) b o $
-        keep ! (0 ∷ 1 ∷ 2 ∷ 3 ∷ 4 ∷ 5 ∷ 6 ∷ 7 ∷ 8 ∷ 9 ∷ 10 ∷ 11 ∷ 12 ∷ 13 ∷ 14 ∷ 15 ∷ 16 ∷ 17 ∷ 18 ∷ 19 ∷ 20 ∷ 21 ∷ 22 ∷ 23 ∷ 24 ∷ 25 ∷ 26 ∷ 27 ∷ 28 ∷ 29 ∷ 30 ∷ 31 ∷ 32 ∷ 33 ∷ 34 ∷ 35 ∷ 36 ∷ []) $
-        ends C Λ l0 l1 l2 l3 l4 l5 l6 l7 l8 l9 l10 l11 l12 l13 l14 r t (zs .1 .1 .1 .0) (zs .1 .1 .1 .1 .0) (ap (λ (m : Monitor). hosted (r .reply) m (zs .1 .1 .1 .0) (zs .1 .1 .1 .1 .0)) new ∙ e .out) memoryl bufferl (hear-spelled r _ is)))))))
+        owned ! T.the-row (Is T.the-row) ((LL.makes T.the-type T′.the-plain) 𝓤 H A) t (vals t) (spelled T.the-row vals (LL.tells T.the-type T′.the-laws) t _ t-is) $ move ! (5 ∷ 0 ∷ 6 ∷ 7 ∷ 8 ∷ []) $ closes ! tt T.the-row t (vals t) b o $
+        ends C Λ l0 l1 l2 l3 l4 l5 l6 l7 l8 l9 l10 l11 l12 l13 l14 r t (zs .1 .1 .1 .0) (zs .1 .1 .1 .1 .0) (ap (λ (m : Monitor). hosted (r .reply) m (zs .1 .1 .1 .0) (zs .1 .1 .1 .1 .0)) new ∙ e .out) memoryl bufferl (spelled R.the-row (LL.vals R.the-type R′.the-laws) (LL.tells R.the-type R′.the-laws) r _ is)))))))
         -- it stays: nothing is stored, and the borrow is closed at what it was
         (λ no. skips ! $ exec ! C Λ (En C Λ l0 l1 l2 l3 l4 l5 l6 l7 l8 l9 l10 l11 l12 l13 l14) rest (atRet (En C Λ l0 l1 l2 l3 l4 l5 l6 l7 l8 l9 l10 l11 l12 l13 l14) Post) $
         owned ! T.the-row (Is T.the-row) ((LL.makes T.the-type T′.the-plain) 𝓤 H A) h (vals h) was $ move ! (5 ∷ 0 ∷ 6 ∷ 7 ∷ 8 ∷ []) $ closes ! tt T.the-row h (vals h) b o $
-        keep ! (0 ∷ 1 ∷ 2 ∷ 3 ∷ 4 ∷ 5 ∷ 6 ∷ 7 ∷ 8 ∷ 9 ∷ 10 ∷ 11 ∷ 12 ∷ 13 ∷ 14 ∷ 15 ∷ 16 ∷ 17 ∷ 18 ∷ 19 ∷ 20 ∷ 21 ∷ 22 ∷ 23 ∷ 24 ∷ 25 ∷ 26 ∷ 27 ∷ 28 ∷ 29 ∷ 30 ∷ 31 ∷ 32 ∷ 33 ∷ 34 ∷ 35 ∷ 36 ∷ []) $
-        ends C Λ l0 l1 l2 l3 l4 l5 l6 l7 l8 l9 l10 l11 l12 l13 l14 r h (zs .1 .1 .1 .0) (zs .1 .1 .1 .1 .0) (ap (λ (m : Monitor). hosted (r .reply) m (zs .1 .1 .1 .0) (zs .1 .1 .1 .1 .0)) (sym (e .stays (fails (r .moved) no))) ∙ e .out) memoryl bufferl (hear-spelled r _ is))))))))))))))))))))))))))
+        ends C Λ l0 l1 l2 l3 l4 l5 l6 l7 l8 l9 l10 l11 l12 l13 l14 r h (zs .1 .1 .1 .0) (zs .1 .1 .1 .1 .0) (ap (λ (m : Monitor). hosted (r .reply) m (zs .1 .1 .1 .0) (zs .1 .1 .1 .1 .0)) (sym (e .stays (fails (r .moved) no))) ∙ e .out) memoryl bufferl (spelled R.the-row (LL.vals R.the-type R′.the-laws) (LL.tells R.the-type R′.the-laws) r _ is))))))))))))))))))))))))))
 
 module _ {M : Type 1} (𝓤 : URA M) (H : Heap 𝓤) (A : Atoms 𝓤) (W : Given 𝓤 H A) (at-mem : Memory → SProp 𝓤) (run : Routine → Fun 𝓤) where
   walks : (C : Calls 𝓤 H) (Λ : Loops 𝓤 H) → FmC 𝓤 H (W .laws) C → Triple 𝓤 (C #g) (G 𝓤 H A at-mem run) → Triple 𝓤 (C #n) (N 𝓤 H A at-mem run) → Walks 𝓤 H A f.ended stayed (WpFn 𝓤 H C Λ code.function) (f.clauses 𝓤 H A at-mem run)
