@@ -8,7 +8,7 @@ struct outcome {
     struct monitor monitor;
     struct monitor_reply reply;
 };
-/* what monitor_event calls on a copy of the state; exported by bench/host.sh alone */
+/* what monitor_event does, by value; bench/host.sh alone has it */
 struct outcome stepped(struct monitor m, struct monitor_request q, const uint8_t *payload, size_t payload_length, uint8_t *memory, size_t memory_length,
                        uint8_t *buffer, size_t buffer_length);
 

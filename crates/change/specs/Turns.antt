@@ -1,6 +1,6 @@
 -- What becomes of the state: each turn, and the state after it.
 use Prim.Native.Nat.{ℕ, _+_, _<_}
-use mathlib.Core.Bool.{true}
+use mathlib.Core.Bool.{Bool, true, false}
 use mathlib.Core.List.{List}
 use lib.ListN.{getD, set}
 use Rattle.geometry.specs.Geometry.{slotCount, pcrCount}
@@ -59,6 +59,15 @@ changedBy s (Leaves y) x d = inMode s Legacy y
 changedBy s (Frees k) x d = vacated s k
 changedBy s (Extends k i) x d = withPcr s k i d
 changedBy s (Enrolls k mark) x d = enrolledState s k mark x d
+
+-- the state does not stay
+abbrev pub moves : Turn → Bool
+moves Kept = false
+moves (Enters y) = true
+moves (Leaves y) = true
+moves (Frees k) = true
+moves (Extends k i) = true
+moves (Enrolls k mark) = true
 
 -- the answer, and the state after the change
 abbrev pub settled : State → Change → Stepped

@@ -171,3 +171,17 @@ pub fn changed(s: State, c: Change) -> State
         Turn::Enrolls { slot, mark } => { enrolled(s, slot, mark, c.fields, c.digest) }
     }
 }
+
+// The state does not stay.
+pub fn moves(turn: Turn) -> bool
+    ensures { λ r. ⌜ r ≡ Turns.moves turn ⌝ }
+{
+    match turn {
+        Turn::Kept => false,
+        Turn::Enters(_) => true,
+        Turn::Leaves(_) => true,
+        Turn::Frees(_) => true,
+        Turn::Extends { slot: _, index: _ } => true,
+        Turn::Enrolls { slot: _, mark: _ } => true,
+    }
+}

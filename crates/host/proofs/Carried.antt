@@ -1,10 +1,21 @@
 -- An event that was asked, carried out by code that meets the rules' step.
-use Prim.Native.Nat.{ℕ}
-use mathlib.Core.Path.{_≡_, sym, ap, _∙_}
+use Prim.Native.Nat.{ℕ, _<_, _^_}
+use mathlib.Core.Path.{_≡_, refl, sym, ap, subst, _∙_}
+use mathlib.Core.Bool.{Bool, false, true≢false}
 use mathlib.Core.List.{List}
+use mir.Val.{Val}
+use denote.Laws.{Is}
+use denote.Struct.Declared.{row}
 use Rattle.state.specs.declared.State.{State}
 use Rattle.events.specs.declared.Event.{Event}
 use Rattle.rules.specs.Act.{Out, step}
+use Rattle.sha1.specs.declared.Digest.{Digest}
+use Rattle.events.specs.declared.Answer.{Answer}
+use Rattle.change.specs.declared.Turn.{Turn}
+use Rattle.change.specs.declared.Turn.the-variants as turn
+use Rattle.change.specs.declared.Change.{Change}
+use Rattle.change.specs.Turns.{changedBy, moves, turnOf, Fits}
+use Rattle.monitor.specs.Allowed as Allowed
 use Rattle.fields.specs.declared.Fields.{Fields}
 use Rattle.manifest.specs.declared.Written.{Written}
 use Rattle.manifest.specs.Writer.{wrote, writeManifest}
@@ -15,23 +26,55 @@ use Rattle.twin.specs.declared.Asked.{Asked}
 use Rattle.twin.specs.declared.Asked.the-variants.{Known, Unknown}
 use Rattle.twin.specs.Twin.{openedOf, shutOf}
 use Rattle.twin.specs.Asked.{askedOf, replyOf, unknownReply}
-use Rattle.host.specs.Host.{Hosted, hosted, shown, hostAsked, hostStep, Answered, answered, writtenReply, wroteOut, hostWrite}
+use Rattle.twin.proofs.Laws.{given-back}
+use Rattle.twin.proofs.Monitor as monitor
+use Rattle.host.specs.declared.Heard.{Heard}
+use Rattle.host.specs.Host.{Hosted, Comes, renewedBy, hosted, shown, hostAsked, hostStep, Answered, answered, writtenReply, wroteOut, hostWrite}
 
 by-asked : (m : Monitor) (q : Request) (payload memory buffer : List ℕ) (a : Asked) → a ≡ askedOf q → hostAsked a m payload memory buffer ≡ hostStep m q payload memory buffer
 unfolding hostStep
 by-asked m q payload memory buffer a e = ap (λ (x : Asked). hostAsked x m payload memory buffer) e
 
+-- a mode is a 64-bit number
+pub mode-fits : (m : Monitor) (vs : List Val) → Is (row monitor.the-type) m vs → m .mode < 2 ^ 64
+mode-fits m vs g = g .1 .1 .1 .1 .1 .1 .0 .1
+
+unmoved : (s : State) (t : Turn) (x : Fields) (d : Digest) → moves t ≡ false → changedBy s t x d ≡ s
+unmoved s turn.Kept x d e = refl
+unmoved s (turn.Enters y) x d e = absurd (true≢false e)
+unmoved s (turn.Leaves y) x d e = absurd (true≢false e)
+unmoved s (turn.Frees k) x d e = absurd (true≢false e)
+unmoved s (turn.Extends k i) x d e = absurd (true≢false e)
+unmoved s (turn.Enrolls k mark) x d e = absurd (true≢false e)
+
+-- where nothing moves, the state is as it was
+unrenewed : (m : Monitor) (c : Change) → m .mode < 2 ^ 64 → moves (c .turn) ≡ false → renewedBy m c ≡ m
+unfolding renewedBy
+unrenewed m c b e = ap shutOf (unmoved (openedOf m) (c .turn) (c .fields) (c .digest) e) ∙ given-back m b
+
 -- the rules' step of the state that the twin stands for, shown as C sees it
-pub carried : (m : Monitor) (q : Request) (payload memory buffer : List ℕ) (e : Event) (s : State) (o : Out) (n : Monitor) (r : Reply)
-    → Known e ≡ askedOf q → s ≡ openedOf m → o ≡ step s memory e payload buffer → n ≡ shutOf (o .state) → r ≡ replyOf (o .answer)
-    → hosted r n (o .memory) (o .buffer) ≡ hostStep m q payload memory buffer
-carried m q payload memory buffer e s o n r ea es eo en er =
-    (λ i. hosted (er i) (en i) (o .memory) (o .buffer))
-    ∙ (ap shown eo ∙ (ap (λ (x : State). shown (step x memory e payload buffer)) es ∙ by-asked m q payload memory buffer (Known e) ea))
+pub carried : (m : Monitor) (q : Request) (payload memory buffer memory′ buffer′ : List ℕ) (e : Event) (s : State) (c : Change) (r : Reply) (v : Bool)
+    → m .mode < 2 ^ 64 → Known e ≡ askedOf q → s ≡ openedOf m → Allowed.Comes s c memory′ buffer′ (step s memory e payload buffer) → r ≡ replyOf (c .answer) → v ≡ moves (c .turn)
+    → Comes m (record { moved = v; reply = r; change = c }) memory′ buffer′ (hostStep m q payload memory buffer)
+unfolding renewedBy
+carried m q payload memory buffer memory′ buffer′ e s c r v b ea es comes er ev =
+    let k = subst (λ (x : State). Allowed.Comes x c memory′ buffer′ (step x memory e payload buffer)) es comes in
+    record {
+      out = (λ i. hosted (er i) (renewedBy m c) memory′ buffer′) ∙ (ap shown (k .out) ∙ by-asked m q payload memory buffer (Known e) ea);
+      stays = λ f. unrenewed m c b (sym ev ∙ f);
+      fits = k .fits;
+    }
 
 -- no event
-pub not-carried : (m : Monitor) (q : Request) (payload memory buffer : List ℕ) (r : Reply) → Unknown ≡ askedOf q → r ≡ unknownReply → hosted r m memory buffer ≡ hostStep m q payload memory buffer
-not-carried m q payload memory buffer r ea er = (λ i. hosted (er i) m memory buffer) ∙ by-asked m q payload memory buffer Unknown ea
+pub not-carried : (m : Monitor) (q : Request) (payload memory buffer : List ℕ) (r : Reply) (a : Answer) (c : Change)
+    → m .mode < 2 ^ 64 → Unknown ≡ askedOf q → r ≡ unknownReply → c ≡ turnOf a turn.Kept → Comes m (record { moved = false; reply = r; change = c }) memory buffer (hostStep m q payload memory buffer)
+not-carried m q payload memory buffer r a c b ea er ec =
+    let k = unrenewed m c b (ap (λ (x : Change). moves (x .turn)) ec) in
+    record {
+      out = (λ i. hosted (er i) (k i) memory buffer) ∙ by-asked m q payload memory buffer Unknown ea;
+      stays = λ _. k;
+      fits = subst (λ (x : Change). Fits (openedOf m) (x .turn) (x .fields)) (sym ec) tt;
+    }
 
 -- the writer's answer and buffer, as C sees them
 pub wrote-out : (f : Fields) (buffer buffer′ : List ℕ) (w : Written) (r : Reply) → wrote w buffer′ ≡ writeManifest f buffer → r ≡ writtenReply w → answered r buffer′ ≡ hostWrite f buffer

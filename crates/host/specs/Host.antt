@@ -1,9 +1,13 @@
 -- What the functions for C give: the rules' step and the other definitions, through the twin.
 use Prim.Native.Nat.{ℕ}
+use mathlib.Core.Path.{_≡_}
+use mathlib.Core.Bool.{false}
 use mathlib.Core.List.{List}
 use Rattle.state.specs.declared.State.{State}
 use Rattle.events.specs.declared.Event.{Event}
 use Rattle.rules.specs.Act.{Out, step}
+use Rattle.change.specs.declared.Change.{Change}
+use Rattle.change.specs.Turns.{changedBy, Fits}
 use Rattle.start.specs.declared.Started.{Started}
 use Rattle.start.specs.Start.{startOf}
 use Rattle.twin.specs.declared.Monitor.{Monitor}
@@ -23,6 +27,7 @@ use Rattle.devicemap.specs.declared.Mapped.the-variants as mapped
 use Rattle.devicemap.specs.Map.{bufferAfter}
 use Rattle.devicemap.specs.Map as map
 use Rattle.host.specs.declared.Begun.{Begun}
+use Rattle.host.specs.declared.Heard.{Heard}
 
 -- a reply, and what stands in the state, in memory and in the buffer after it
 pub record Hosted : Type 0 where
@@ -45,6 +50,16 @@ hostAsked Unknown m payload memory buffer = hosted unknownReply m memory buffer
 
 unfoldable pub hostStep : Monitor → Request → List ℕ → List ℕ → List ℕ → Hosted
 hostStep m q payload memory buffer = hostAsked (askedOf q) m payload memory buffer
+
+-- the state after the change
+unfoldable pub renewedBy : Monitor → Change → Monitor
+renewedBy m c = shutOf (changedBy (openedOf m) (c .turn) (c .fields) (c .digest))
+
+-- what an event comes to: the reply and the state after the change, which can be made; where nothing moves, that is the state as it was
+pub record Comes (m : Monitor) (h : Heard) (memory buffer : List ℕ) (o : Hosted) : Type 0 where
+  pub out : hosted (h .reply) (renewedBy m (h .change)) memory buffer ≡ o
+  pub stays : h .moved ≡ false → renewedBy m (h .change) ≡ m
+  pub fits : Fits (openedOf m) (h .change .turn) (h .change .fields)
 
 abbrev pub begun : Started → Begun
 begun s = record { monitor = shutOf (s .state); number = s .refusal }

@@ -4,9 +4,13 @@ ghost use mathlib.Core.Path.{_≡_};
 ghost use Rattle.state.specs.Zero.{zeroRunning};
 ghost use Rattle.manifest.specs.Reader.{readManifest};
 ghost use Rattle.switch.specs.Record.{enteredRecord};
-ghost use Rattle.host.specs.Host.{hosted, hostStep, hostStart, answered, writtenReply, mappedReply, hostWrite, hostMap};
+ghost use Rattle.change.specs.Turns.{Fits};
+ghost use Rattle.twin.specs.Twin.{openedOf};
+ghost use Rattle.host.specs.Host.{Comes, renewedBy, hosted, hostStep, hostStart, answered, writtenReply, mappedReply, hostWrite, hostMap};
 ghost use Rattle.host.specs.Promise.{RefusalsKeepAll};
+use change::Change;
 use devicemap::Mapped;
+use events::Answer;
 use fields::Fields;
 use manifest::Reading;
 use manifest::Written;
@@ -16,10 +20,11 @@ use twin::Monitor;
 use twin::Reply;
 use twin::Request;
 
-// What an event leaves.
-pub struct Outcome {
-    pub monitor: Monitor,
+// What an event comes to: its reply, and the change where the state does not stay.
+pub struct Heard {
+    pub moved: bool,
     pub reply: Reply,
+    pub change: Change,
 }
 
 // What start gives: a state, and 0 or the refusal.
@@ -50,34 +55,47 @@ pub extern "C" fn monitor_start(m: &mut Monitor, pages: usize, kept: usize) -> u
 }
 
 // One event, on a state by value.
-fn stepped(m: Monitor, q: Request, payload: &[u8], memory: &mut [u8], buffer: &mut [u8]) -> Outcome
-    ensures { λ r. ⌜ hosted (r .reply) (r .monitor) (now (memory .exit)) (now (buffer .exit)) ≡ hostStep m q (now (payload .entry)) (now (memory .entry)) (now (buffer .entry)) ⌝ }
+fn hear(m: Monitor, q: Request, payload: &[u8], memory: &mut [u8], buffer: &mut [u8]) -> Heard
+    ensures { λ r. ⌜ Comes m r (now (memory .exit)) (now (buffer .exit)) (hostStep m q (now (payload .entry)) (now (memory .entry)) (now (buffer .entry))) ⌝ }
 {
     let a = twin::event_asked(q);
     match a {
         Asked::Known(e) => {
             let s = twin::opened(m);
-            let o = monitor::step(e, payload, s, memory, buffer);
-            let answer = o.answer;
-            let t = o.state;
-            let n = twin::shut(t);
+            let c = monitor::decided(e, payload, s, memory, buffer);
+            let answer = c.answer;
+            let turn = c.turn;
             let reply = twin::replied(answer);
-            Outcome {
-                monitor: n,
+            let moved = change::moves(turn);
+            Heard {
+                moved: moved,
                 reply: reply,
+                change: c,
             }
         }
         Asked::Unknown => {
             let reply = twin::not_asked();
-            Outcome {
-                monitor: m,
+            let c = change::kept(Answer::Done);
+            Heard {
+                moved: false,
                 reply: reply,
+                change: c,
             }
         }
     }
 }
 
-// One event, on the lent state.
+// The state after the change.
+fn renewed(m: Monitor, c: Change) -> Monitor
+    requires { ⌜ Fits (openedOf m) (c .turn) (c .fields) ⌝ }
+    ensures { λ r. ⌜ r ≡ renewedBy m c ⌝ }
+{
+    let s = twin::opened(m);
+    let t = change::changed(s, c);
+    twin::shut(t)
+}
+
+// One event, on the lent state: where it stays, nothing is stored.
 #[no_mangle]
 pub extern "C" fn monitor_event(
     m: &mut Monitor,
@@ -89,10 +107,13 @@ pub extern "C" fn monitor_event(
     ensures { λ r. ⌜ hosted r (now (m .exit)) (now (memory .exit)) (now (buffer .exit)) ≡ hostStep (now (m .entry)) q (now (payload .entry)) (now (memory .entry)) (now (buffer .entry)) ⌝ }
 {
     let was = *m;
-    let o = stepped(was, q, payload, memory, buffer);
-    let t = o.monitor;
-    *m = t;
-    o.reply
+    let h = hear(was, q, payload, memory, buffer);
+    if h.moved {
+        let c = h.change;
+        let t = renewed(was, c);
+        *m = t;
+    }
+    h.reply
 }
 
 // The manifest's fields, or 3 and all zero.
