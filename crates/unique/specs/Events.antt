@@ -19,6 +19,7 @@ use Rattle.change.proofs.turned as change-turned
 use Rattle.change.proofs.kept as change-kept
 use Rattle.change.proofs.extending as change-extending
 use Rattle.change.proofs.enrolling as change-enrolling
+use Rattle.change.proofs.moves as change-moves
 use Rattle.change.proofs.changed as change-changed
 use Rattle.release.proofs.jump.jump as release-jump
 use Rattle.release.proofs.release.release as release-release
@@ -69,6 +70,7 @@ pub record Events : Type 0 where
   pub change-kept-one : OneOutcome change-kept.ended change-kept.Reads.Learnt
   pub change-extending-one : OneOutcome change-extending.ended change-extending.Reads.Learnt
   pub change-enrolling-one : OneOutcome change-enrolling.ended change-enrolling.Reads.Learnt
+  pub change-moves-one : OneOutcome change-moves.ended change-moves.Reads.Learnt
   pub change-changed-one : OneOutcome change-changed.ended change-changed.Reads.Learnt
   pub release-jump-one : OneView release-jump.ended release-jump.Reads.Learnt (λ κs a z w. (settled (a .0) z, w .1 .0))
   pub release-release-one : OneOutcome release-release.ended release-release.Reads.Learnt

@@ -26,6 +26,7 @@ returns c = record {
   change-kept-one = λ κs a z z′ w w′. result;
   change-extending-one = λ κs a z z′ w w′. result;
   change-enrolling-one = λ κs a z z′ w w′. result;
+  change-moves-one = λ κs a z z′ w w′. result;
   change-changed-one = λ κs a z z′ w w′. result;
   release-jump-one = λ κs a z z′ w w′ p q. settled-both (p []) (q []);
   release-release-one = λ κs a z z′ w w′ p q. (both (p .0) (q .0), λ i. (both (p .1) (q .1) i, (tt, (tt, (tt, (tt, tt))))));
