@@ -5,6 +5,7 @@ use mathlib.Core.Bool.{Bool}
 use mathlib.Core.List.{List, [], _∷_, _++_}
 use lib.ListN.{length, take, getD}
 use lib.Dec.{leb, ltb}
+use Rattle.geometry.specs.Geometry.{pageSize}
 use Rattle.lists.specs.Below.{pick}
 use Rattle.events.specs.declared.Answer.{Answer}
 use Rattle.events.specs.declared.Answer.the-variants.{Done, Slot, Entered, Left, Terminated, Filled, Refused}
@@ -17,7 +18,7 @@ clipped n most = pick (ltb n most) n most
 
 -- the most bytes of an answer, a page
 abbrev pub mostShown : ℕ
-mostShown = 4096
+mostShown = pageSize
 
 -- the longest text: `hex `, two characters a byte, a newline
 abbrev pub longestText : ℕ

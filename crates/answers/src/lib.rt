@@ -1,5 +1,6 @@
 // One answer to its text: `ok`, `slot S`, `in S`, `out N`, `dead S`, `hex` and the bytes, `no R` (document 01, "The line program").
 use events::Answer;
+use geometry::Geometry;
 ghost use mathlib.Core.Path.{_≡_};
 ghost use mathlib.Core.List.{List, [], _∷_, _++_};
 ghost use Prim.Native.Nat.{ℕ, _+_, _*_, _≤_};
@@ -81,7 +82,7 @@ pub fn say(answer: Answer, buffer: &[u8], text: &mut [u8]) -> usize
         Answer::Left(n) => say_number(text, b"out ", count(n)),
         Answer::Terminated(s) => say_number(text, b"dead ", count(s)),
         Answer::Filled(n) => {
-            let m = clip(clip(n, 4096), buffer.len());
+            let m = clip(clip(n, Geometry::PAGE), buffer.len());
             say_bytes(text, b"hex ", &buffer[..m])
         }
         Answer::Refused(r) => say_number(text, b"no ", wide(r)),

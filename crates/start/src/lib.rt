@@ -28,7 +28,7 @@ fn fresh_page(p: usize, m: usize, i: usize) -> u8
         return 0;
     }
     if i < p {
-        return 255;
+        return wellformed::MONITORS;
     }
     0
 }

@@ -23,6 +23,9 @@ use state::Running;
 use state::Slot;
 use state::State;
 
+// The owner of the monitor's pages.
+pub const MONITORS: u8 = 255;
+
 pub fn sizes_right(p: usize, m: usize) -> bool
     ensures { λ r. ⌜ r ≡ sizesRight p m ⌝ }
 {
@@ -179,7 +182,7 @@ pub fn state_right(s: State) -> bool
     }
     let top = s.pages - s.kept;
     let mut t = [0u8; Geometry::MOST_PAGES];
-    painting::paint(&mut t, top, s.kept, 255);
+    painting::paint(&mut t, top, s.kept, MONITORS);
     let mut bad: u8 = 0;
     let mut k: usize = 0;
     while k < Geometry::SLOTS {
