@@ -39,6 +39,9 @@ use Rattle.monitor.proofs.decided as monitor-decided
 use Rattle.monitor.proofs.step as monitor-step
 use borrow.Fn.World.{w₀}
 use borrow.Fn.Read.{r-last}
+use Prim.Native.Nat.{ℕ}
+use mathlib.Core.List.{List}
+use Rattle.touch.specs.declared.Stepped.{Stepped}
 use Rattle.change.specs.Turns.{settled}
 use Rattle.monitor.specs.Allowed.{outOf}
 use Rattle.unique.specs.One.{Says, OneOutcome, told, OneView}
@@ -72,15 +75,15 @@ pub record Events : Type 0 where
   pub change-enrolling-one : OneOutcome change-enrolling.ended change-enrolling.Reads.Learnt
   pub change-moves-one : OneOutcome change-moves.ended change-moves.Reads.Learnt
   pub change-changed-one : OneOutcome change-changed.ended change-changed.Reads.Learnt
-  pub release-jump-one : OneView release-jump.ended release-jump.Reads.Learnt (λ κs a z w. (settled (a .0) z, w .1 .0))
+  pub release-jump-one : OneView release-jump.ended release-jump.Reads.Learnt {A = Stepped × List ℕ} (λ κs a z w. (settled (a .0) z, w .1 .0))
   pub release-release-one : OneOutcome release-release.ended release-release.Reads.Learnt
-  pub release-unregister-one : OneView release-unregister.ended release-unregister.Reads.Learnt (λ κs a z w. (settled (a .0) z, w .1 .0))
-  pub call-call-one : OneView call-call.ended call-call.Reads.Learnt (λ κs a z w. (settled (a .0) z, w .1 .0))
+  pub release-unregister-one : OneView release-unregister.ended release-unregister.Reads.Learnt {A = Stepped × List ℕ} (λ κs a z w. (settled (a .0) z, w .1 .0))
+  pub call-call-one : OneView call-call.ended call-call.Reads.Learnt {A = Stepped × List ℕ} (λ κs a z w. (settled (a .0) z, w .1 .0))
   pub call-slot-for-one : OneOutcome call-slot-for.ended call-slot-for.Reads.Learnt
   pub call-param-of-one : OneOutcome call-param-of.ended call-param-of.Reads.Learnt
   pub call-param-start-one : OneOutcome call-param-start.ended call-param-start.Reads.Learnt
   pub call-kept-as-one : OneOutcome call-kept-as.ended call-kept-as.Reads.Learnt
-  pub call-return-one : OneView call-return.ended call-return.Reads.Learnt (λ κs a z w. (settled (a .0) z, w .1 .0))
+  pub call-return-one : OneView call-return.ended call-return.Reads.Learnt {A = Stepped × List ℕ} (λ κs a z w. (settled (a .0) z, w .1 .0))
   pub enroll-all-open-one : OneOutcome enroll-all-open.ended enroll-all-open.Reads.Learnt
   pub enroll-free-slot-one : OneOutcome enroll-free-slot.ended enroll-free-slot.Reads.Learnt
   pub enroll-measured-one : OneOutcome enroll-measured.ended enroll-measured.Reads.Learnt
