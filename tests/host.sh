@@ -45,4 +45,4 @@ build life "$gcc" -O2 -I"$room" -Wno-empty-body
 echo "host: $($run "$room/life")"
 
 build stack "$gcc" -O2
-$run "$room/stack" 24576 # bytes; what makes it so deep stands in docs/HOST.md
+$run "$room/stack" 16384 # bytes; what makes it so deep stands in docs/HOST.md

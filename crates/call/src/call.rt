@@ -91,7 +91,7 @@ pub fn call(
     if Geometry::SLOTS <= k {
         return change::kept(Answer::Refused(8));
     }
-    let slot = s.slots[k];
+    let slot = pages::slot_at(s, k);
     let found = slot.entry_found(address);
     match found {
         Found::At(x) => call_entry(s, memory, k, x, input, output),

@@ -114,9 +114,13 @@ fn vacated(s: State, k: usize) -> State
     requires { ⌜ (k < slotCount) × RunsFit (getD (s .slots) k noSlot .card .fields .r) (getD (s .slots) k noSlot .card .fields .runs) ⌝ }
     ensures { λ r. ⌜ r ≡ Turns.vacated s k ⌝ }
 {
-    let slot = s.slots[k];
+    let mut t = s;
+    let slot = t.slots[k];
     let fields = slot.card.fields;
-    let t = seated(s, k, slot.cleared(), fields, 0);
+    let n = fields.r;
+    let runs = fields.runs;
+    painting::paint_runs(&mut t.owner, n, runs, 0);
+    t.slots[k] = slot.cleared();
     in_mode(
         t,
         Mode::Legacy,
@@ -132,8 +136,8 @@ fn with_pcr(s: State, k: usize, index: usize, digest: Digest) -> State
     requires { ⌜ (k < slotCount) × (index < pcrCount) ⌝ }
     ensures { λ r. ⌜ r ≡ Turns.withPcr s k index digest ⌝ }
 {
-    let slot = s.slots[k];
     let mut t = s;
+    let slot = t.slots[k];
     t.slots[k] = slot.extended(index, digest);
     t
 }

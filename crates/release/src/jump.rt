@@ -35,9 +35,9 @@ fn jump_secure(s: State, memory: &mut [u8], k: usize, address: usize) -> Change
     ensures { λ r. ⌜ Acts (jumpSecure (faceOf s) k address) s (now (memory .entry)) r (now (memory .exit)) ⌝ }
 {
     let page = address / Geometry::PAGE;
-    let own = pages::is_own(&s.owner, k, page);
+    let own = pages::is_own_of(s, k, page);
     let code = pages::in_code_of(s, k, page);
-    let slot = s.slots[k];
+    let slot = pages::slot_at(s, k);
     let fields = slot.card.fields;
     let n = fields.r;
     let runs = fields.runs;

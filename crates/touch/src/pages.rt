@@ -1,6 +1,7 @@
 // "Legacy reaches open pages. Secure reaches its own pages, and may not write code pages."
 use geometry::Geometry;
 use state::Mode;
+use state::Slot;
 use state::State;
 ghost use mathlib.Core.Path.{_≡_};
 ghost use mathlib.Core.Bool.{true, _&&_};
@@ -8,7 +9,8 @@ ghost use Prim.Native.Nat.{ℕ, _+_, _≤_, _<_};
 ghost use lib.ListN.{length, getD};
 ghost use lib.Dec.{ltb, eqb};
 ghost use Rattle.geometry.specs.Geometry.{slotCount};
-ghost use Rattle.state.specs.Face.{faceOf, cardAt};
+ghost use Rattle.state.specs.Zero.{noSlot};
+ghost use Rattle.state.specs.Face.{faceOf, cardAt, isOpen};
 ghost use Rattle.fields.specs.Rules.{inCode};
 ghost use Rattle.wellformed.specs.WellFormed.{stateRight};
 ghost use Rattle.rules.specs.Tests.{read, write, execute, device, mayReach};
@@ -34,6 +36,28 @@ pub fn is_own(owner: &[u8], k: usize, page: usize) -> bool
     false
 }
 
+// The next four look into the state, each at one place, so that no two copies of it stand at a time.
+fn is_open_in(s: State, page: usize) -> bool
+    requires { ⌜ stateRight s ≡ true ⌝ }
+    ensures { λ r. ⌜ r ≡ isOpen (faceOf s) page ⌝ }
+{
+    is_open(s.pages, &s.owner, page)
+}
+
+pub fn is_own_of(s: State, k: usize, page: usize) -> bool
+    requires { ⌜ k < slotCount ⌝ }
+    ensures { λ r. ⌜ r ≡ eqb (getD (s .owner) page 0) (k + 1) ⌝ }
+{
+    is_own(&s.owner, k, page)
+}
+
+pub fn slot_at(s: State, k: usize) -> Slot
+    requires { ⌜ k < slotCount ⌝ }
+    ensures { λ r. ⌜ r ≡ getD (s .slots) k noSlot ⌝ }
+{
+    s.slots[k]
+}
+
 // A page of slot k's code runs.
 pub fn in_code_of(s: State, k: usize, page: usize) -> bool
     requires { ⌜ (stateRight s ≡ true) × (k < slotCount) ⌝ }
@@ -52,8 +76,8 @@ pub fn may_read(s: State, page: usize) -> bool
 {
     let mode = s.mode;
     match mode {
-        Mode::Legacy => is_open(s.pages, &s.owner, page),
-        Mode::Secure(k) => is_own(&s.owner, k, page),
+        Mode::Legacy => is_open_in(s, page),
+        Mode::Secure(k) => is_own_of(s, k, page),
     }
 }
 
@@ -63,9 +87,9 @@ pub fn may_write(s: State, page: usize) -> bool
 {
     let mode = s.mode;
     match mode {
-        Mode::Legacy => is_open(s.pages, &s.owner, page),
+        Mode::Legacy => is_open_in(s, page),
         Mode::Secure(k) => {
-            let own = is_own(&s.owner, k, page);
+            let own = is_own_of(s, k, page);
             let code = in_code_of(s, k, page);
             own & !code
         }
@@ -76,5 +100,5 @@ pub fn device_may(s: State, page: usize) -> bool
     requires { ⌜ stateRight s ≡ true ⌝ }
     ensures { λ r. ⌜ r ≡ mayReach (s .mode) (faceOf s) device page ⌝ }
 {
-    is_open(s.pages, &s.owner, page)
+    is_open_in(s, page)
 }

@@ -6,6 +6,8 @@ use Rattle.switch.proofs.entering as switch-entering
 use Rattle.switch.proofs.leaving as switch-leaving
 use Rattle.touch.proofs.pages.is_open as touch-is-open
 use Rattle.touch.proofs.pages.is_own as touch-is-own
+use Rattle.touch.proofs.pages.is_own_of as touch-is-own-of
+use Rattle.touch.proofs.pages.slot_at as touch-slot-at
 use Rattle.touch.proofs.pages.in_code_of as touch-in-code-of
 use Rattle.touch.proofs.pages.may_read as touch-may-read
 use Rattle.touch.proofs.pages.may_write as touch-may-write
@@ -60,6 +62,8 @@ pub record Events : Type 0 where
   pub switch-leaving-one : OneOutcome switch-leaving.ended switch-leaving.Reads.Learnt
   pub touch-is-open-one : OneOutcome touch-is-open.ended touch-is-open.Reads.Learnt
   pub touch-is-own-one : OneOutcome touch-is-own.ended touch-is-own.Reads.Learnt
+  pub touch-is-own-of-one : OneOutcome touch-is-own-of.ended touch-is-own-of.Reads.Learnt
+  pub touch-slot-at-one : OneOutcome touch-slot-at.ended touch-slot-at.Reads.Learnt
   pub touch-in-code-of-one : OneOutcome touch-in-code-of.ended touch-in-code-of.Reads.Learnt
   pub touch-may-read-one : OneOutcome touch-may-read.ended touch-may-read.Reads.Learnt
   pub touch-may-write-one : OneOutcome touch-may-write.ended touch-may-write.Reads.Learnt

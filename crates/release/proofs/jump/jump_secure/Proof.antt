@@ -13,51 +13,46 @@ use borrow.Author.Needs.{needs}
 use Rattle.release.proofs.jump.jump_secure.Statement.{statement}
 use Rattle.release.proofs.jump.jump_secure.Tie as tie
 
-is-own-requires : tie.Need-is-own-requires
-is-own-requires c κs = c .before .before .before .before .pre .1
+is-own-of-requires : tie.Need-is-own-of-requires
+is-own-of-requires c κs = c .before .pre .1
 
 in-code-of-requires : tie.Need-in-code-of-requires
-in-code-of-requires c κs = let z = c .before .before .before .before .before in (ready (z .args .t1) _ (z .pre .0), z .pre .1)
+in-code-of-requires c κs = (ready (c .before .before .args .s) _ (c .before .before .pre .0), c .before .before .pre .1)
+
+slot-at-requires : tie.Need-slot-at-requires
+slot-at-requires c κs = c .before .before .before .pre .1
 
 returns : tie.Need-returns
 returns c = λ payload.
-    let z = c .before .before .before .before .before .before .before .before .before .before .before in
-    let a = z .args in
-    let o : ownCode (faceOf (a .t1)) (a .k) (pageOf (a .address)) ≡ true = sym (λ i. c .before .before .before .before .before .before .is-own .ensures i && c .before .before .before .before .before .in-code-of .ensures i) ∙ c .before .if1 .taken in
-    rw (jump-own (faceOf (a .t1)) (a .address) (a .k) o)
-    (still-settles (a .t1) (state-shape (a .t1) _ (z .good .0) .slots-long) nothing answer.Done payload (a .memory .now) _ (c .kept .ensures))
-
-mul-slot : tie.Need-mul-slot
-mul-slot c = search needs
-
-element-copy-out-slot : tie.Need-element-copy-out-slot
-element-copy-out-slot c = search needs
+    let a = c .before .before .before .before .before .before .before .before .args in
+    let o : ownCode (faceOf (a .s)) (a .k) (pageOf (a .address)) ≡ true = sym (λ i. c .before .before .before .before .before .before .is-own-of .ensures i && c .before .before .before .before .before .in-code-of .ensures i) ∙ c .before .if1 .taken in
+    rw (jump-own (faceOf (a .s)) (a .address) (a .k) o)
+    (still-settles (a .s) (state-shape (a .s) _ (c .before .before .before .before .before .before .before .before .good .0) .slots-long) nothing answer.Done payload (a .memory .now) _ (c .kept .ensures))
 
 release-requires : tie.Need-release-requires
-release-requires c κs = let z = c .before .before .before .before .before .before .before .before .before .before .before in runs-in (z .args .t1) _ (z .pre .0) (z .args .k) (z .pre .1)
-
-same-length : tie.Need-same-length
-same-length c = search needs
+release-requires c κs = rw (c .before .before .before .before .slot-at .ensures) (runs-in (c .before .before .before .before .before .before .before .before .args .s) _ (c .before .before .before .before .before .before .before .before .pre .0) (c .before .before .before .before .before .before .before .before .args .k) (c .before .before .before .before .before .before .before .before .pre .1))
 
 returns-2 : tie.Need-returns-2
 returns-2 c = λ payload.
-    let z = c .before .before .before .before .before .before .before .before .before .before .before .before .before .before in
-    let a = z .args in
-    let o : ownCode (faceOf (a .t1)) (a .k) (pageOf (a .address)) ≡ false = sym (λ i. c .before .before .before .before .before .before .before .before .before .is-own .ensures i && c .before .before .before .before .before .before .before .before .in-code-of .ensures i) ∙ c .before .before .before .before .if1 .left in
-    rw (jump-away (faceOf (a .t1)) (a .address) (a .k) o)
-    (released-settles (a .t1) (a .k) (state-shape (a .t1) _ (z .good .0) .slots-long) (z .pre .1) (answer.Terminated (a .k)) payload (a .memory .now) _ (ready (a .t1) _ (z .pre .0)) _ (c .before .before .release .ensures .0) (c .before .before .release .ensures .1))
+    let a = c .before .before .before .before .before .before .before .before .before .before .before .args in
+    let o : ownCode (faceOf (a .s)) (a .k) (pageOf (a .address)) ≡ false = sym (λ i. c .before .before .before .before .before .before .before .before .before .is-own-of .ensures i && c .before .before .before .before .before .before .before .before .in-code-of .ensures i) ∙ c .before .before .before .before .if1 .left in
+    let q = c .before .before .before .before .before .before .before .slot-at .ensures in
+    rw (jump-away (faceOf (a .s)) (a .address) (a .k) o)
+    (released-settles (a .s) (a .k) (state-shape (a .s) _ (c .before .before .before .before .before .before .before .before .before .before .before .good .0) .slots-long) (c .before .before .before .before .before .before .before .before .before .before .before .pre .1) (answer.Terminated (a .k)) payload (a .memory .now) _ (ready (a .s) _ (c .before .before .before .before .before .before .before .before .before .before .before .pre .0)) _ (c .before .before .release .ensures .0) (rw q at (c .before .before .release .ensures .1)))
 
 kept-requires : tie.Need-kept-requires
 kept-requires c κs = search needs
+
+same-length : tie.Need-same-length
+same-length c = search needs
 
 pub jump-secure-spec : {M : Type 1} → statement M
 jump-secure-spec =
     tie.close
     (tie.spec
-    is-own-requires
+    is-own-of-requires
     in-code-of-requires
-    mul-slot
-    element-copy-out-slot
+    slot-at-requires
     kept-requires
     returns
     release-requires

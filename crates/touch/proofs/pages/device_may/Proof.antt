@@ -1,16 +1,15 @@
 use Rattle.state.specs.Face.{faceOf}
 use Rattle.touch.proofs.Plans.{device-open}
-use Rattle.touch.proofs.Ready.{few-pages}
 use mathlib.Core.Path.{sym, _∙_}
-use native.Mathlib.Omega.{arith}
+use borrow.Author.Needs.{needs}
 use Rattle.touch.proofs.pages.device_may.Statement.{statement}
 use Rattle.touch.proofs.pages.device_may.Tie as tie
 
-is-open-requires : tie.Need-is-open-requires
-is-open-requires c κs = omega (arith, few-pages (c .before .before .before .args .t1) (c .before .before .before .pre))
+is-open-in-requires : tie.Need-is-open-in-requires
+is-open-in-requires c κs = c .pre
 
 returns : tie.Need-returns
-returns c = c .is-open .ensures ∙ sym (device-open (faceOf (c .before .before .before .before .args .t1)) (c .before .before .before .before .args .page) (c .before .before .before .before .args .t1 .mode))
+returns c = c .is-open-in .ensures ∙ sym (device-open (faceOf (c .before .args .s)) (c .before .args .page) (c .before .args .s .mode))
 
 pub device-may-spec : {M : Type 1} → statement M
-device-may-spec = tie.close (tie.spec is-open-requires returns)
+device-may-spec = tie.close (tie.spec is-open-in-requires returns)
