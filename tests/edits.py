@@ -11,7 +11,8 @@ ROOT = pathlib.Path(__file__).resolve().parent.parent
 # what is said where a proposition was tried and not proved
 FACT = re.compile(r"it is not proved that"
                   r"|expected type `|` *\n? *≟ `"
-                  r"|(?:as printed|computed as far as they go), the two (?:types|values)"  # an equation's end is another value
+                  r"|(?:as printed|computed as far as they go), the two types"
+                  r"|computed as far as they go, the two values"  # both ends of an equation computed, and they are not the same
                   r"|`(?:omega|search|rw|simp|cc)`(?::| met)"
                   r"|list the missing equation with its arguments|give a proof of that as the last argument")
 # what is said where a proof file does not fit the code's shape: it says nothing about the contract

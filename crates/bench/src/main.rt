@@ -1,5 +1,6 @@
 // The line program: standard input to standard output, on P=8, M=1, zeroed memory and a 4,096-byte answer buffer (document 01, "The line program").
 // What the bytes that are read make of state, memory, answer buffer and output is desk::serve's contract; here they are only read and written.
+use geometry::Geometry;
 use libc::STDIN_FILENO;
 use libc::STDOUT_FILENO;
 use state::State;
@@ -67,11 +68,14 @@ fn run(
     }
 }
 
+// The memory of the eight pages that it runs on.
+const MEMORY: usize = 8 * Geometry::PAGE;
+
 fn main() {
     let begun = start::start(8, 1);
     let mut block = io::large_buffer();
     let mut payload = [0u8; lines::PAYLOAD_ROOM];
-    let mut memory = [0u8; 32768];
+    let mut memory = [0u8; MEMORY];
     let mut buffer = io::buffer();
     let mut out = io::large_buffer();
     let state = begun.state;

@@ -21,7 +21,7 @@ textsOf (l ∷ ls) s m buffer =
 
 -- what is printed for an input
 unfoldable pub outputOf : List ℕ → List ℕ
-outputOf input = textsOf (linesOf input) (freshState 8 1) (zeros (8 * pageSize)) (zeros 4096)
+outputOf input = textsOf (linesOf input) (freshState 8 1) (zeros (8 * pageSize)) (zeros pageSize)
 
 -- what is held between two reads or writes: the state, memory and answer buffer, and the text that waits to be heard
 pub record Held : Type 0 where
@@ -37,7 +37,7 @@ servedIn room h = answeredIn room (endedLines [] (h .waiting)) (unasked (h .stat
 -- all that may be read, written and held
 pub data Session : List ℕ → List ℕ → Held → Type 0 where
   -- before the first read
-  opened : Session [] [] (record { state = freshState 8 1; memory = zeros (8 * pageSize); buffer = zeros 4096; waiting = [] })
+  opened : Session [] [] (record { state = freshState 8 1; memory = zeros (8 * pageSize); buffer = zeros pageSize; waiting = [] })
   -- lines are heard and their answers written
   served : (room : ℕ) (input output : List ℕ) (h : Held) → Session input output h
       → Session input (output ++ servedIn room h .text) (record { state = servedIn room h .state; memory = servedIn room h .memory; buffer = servedIn room h .buffer; waiting = drop (servedIn room h .at) (h .waiting) })
