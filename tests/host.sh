@@ -44,5 +44,8 @@ awk '/^```c$/ { on = 1; next } /^```$/ { on = 0 } on' docs/HOST.md >"$room/life.
 build life "$gcc" -O2 -I"$room" -Wno-empty-body
 echo "host: $($run "$room/life")"
 
+build moves "$gcc" -O2 -fsanitize="$sanitizers" -fno-sanitize-recover=all
+echo "host: $($run "$room/moves")"
+
 build stack "$gcc" -O2 -Wl,-z,now # so that the first call of a C function does not count what the loader takes to find it
 $run "$room/stack" 16384 # bytes; what makes it so deep stands in docs/HOST.md

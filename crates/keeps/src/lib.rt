@@ -90,7 +90,8 @@ fn code_holds(x: Run, page: usize) -> bool
     (x.kind == 1) & ((x.first as usize <= page) & (page < end))
 }
 
-// Whether ok holds and the page is in a code run: the one search of the two below, which goes no further than the run that has the page.
+// Whether ok holds and the page is in a code run: the one search of the two below, which goes no further than the run that has the page. It counts
+// all places, and not the used ones alone, since a compiler keeps the runs in registers where it knows the number of turns.
 fn code_if(ok: bool, r: usize, runs: [Run; Fields::RUNS], page: usize) -> bool
     requires { ⌜ r ≤ 4 ⌝ }
     ensures { λ b. ⌜ b ≡ ok && inCode (fieldsOf r 0 runs []) page ⌝ }
@@ -99,9 +100,9 @@ fn code_if(ok: bool, r: usize, runs: [Run; Fields::RUNS], page: usize) -> bool
         return false;
     }
     let mut i: usize = 0;
-    while i < r {
+    while i < Fields::RUNS {
         let x = runs[i];
-        if code_holds(x, page) {
+        if (i < r) & code_holds(x, page) {
             return true;
         }
         i += 1;
