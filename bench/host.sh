@@ -9,7 +9,7 @@ mkdir -p "$work/target"
 for part in target/*; do # what is proved already need not be proved again
     case $part in target/bench | target/must-fail) ;; *) cp -r "$part" "$work/target/" ;; esac
 done
-cp -r crates crates.txt bench/host.c host/monitor.h "$work"
+cp -r crates crates.txt host bench/host.c "$work"
 cd "$work"
 
 install() { # COMMAND PACKAGE: from Debian's packages, where the command is not there
@@ -45,6 +45,6 @@ pub extern "C" fn stepped(m: Monitor, q: Request, payload: &[u8], memory: &mut [
     Outcome { monitor: t, reply: reply }
 }
 END
-rt staticlib host >staticlib.log 2>&1 || { tail -n 5 staticlib.log; exit 1; }
-"$gcc" -O2 -static -I. host.c target/staticlib/libhost.a -o host
-$run ./host
+host/archive.sh >archive.log || { cat archive.log; exit 1; }
+"$gcc" -O2 -static -Ihost host.c target/host/libhost.a -o times
+$run ./times

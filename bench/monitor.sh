@@ -1,5 +1,5 @@
 #!/bin/bash
-# The proved monitor, called as firmware calls it (crate host, over a lent state), beside the plain C monitor by gcc -O3, in one
+# The proved monitor, called as firmware calls it (host/archive.sh, over a lent state), beside the plain C monitor by gcc -O3, in one
 # run: first random events on which both must do the same, then ns and ratios with the TrustVisor report's tables 2 and 3
 # beside them (other hardware, a 2.3 GHz AMD Opteron, and the processor's switch between guest and host is in its times),
 # registration beside the bare hash of its pages, and the deepest stack use. No part of the gate: a time is no test.
@@ -25,7 +25,7 @@ install "$gcc" gcc
 archive() { # FOLDER NAME: the archive of a proved crate of the repository in a folder
     (cd "$1" && rt staticlib "$2") >"$work/staticlib.log" 2>&1 || { tail -n 5 "$work/staticlib.log"; exit 1; }
 }
-archive . host
+host/archive.sh >/dev/null
 
 # the bare hash: sha1's own function under a name that C can call
 cp -r crates "$work/bare"
@@ -48,7 +48,7 @@ END
 archive "$work/bare" bare
 
 "$gcc" -std=gnu11 -O3 -c bench/monitor.c -o "$work/monitor.o"
-"$gcc" -std=gnu11 -O2 -fno-strict-aliasing -static bench/monitor_times.c "$work/monitor.o" target/staticlib/libhost.a "$work/bare/target/staticlib/libbare.a" -o "$work/times"
+"$gcc" -std=gnu11 -O2 -fno-strict-aliasing -static bench/monitor_times.c "$work/monitor.o" target/host/libhost.a "$work/bare/target/staticlib/libbare.a" -o "$work/times"
 if [ -n "$run" ]; then
     python3 bench/counts.py "$run" "$work/times" "$@"
 else
@@ -56,4 +56,4 @@ else
 fi
 echo
 echo "Copies of a slot (0x120) or of a state (0xd30 and near) in the archive, by memcpy:"
-"${gcc%gcc}objdump" -dr --no-show-raw-insn target/staticlib/libhost.a | grep -B6 'R_X86_64_PLT32.*memcpy' | grep -oE '\$0x[0-9a-f]+,%edx' | sort | uniq -c | sort -rn | head
+"${gcc%gcc}objdump" -dr --no-show-raw-insn target/host/libhost.a | grep -B6 'R_X86_64_PLT32.*memcpy' | grep -oE '\$0x[0-9a-f]+,%edx' | sort | uniq -c | sort -rn | head

@@ -1,5 +1,5 @@
 /* The proved monitor beside the plain C one, in one program: first that they agree, then times, ratios and stack.
-   The proved one is called as C calls it, over a lent state: crate `host`, whose layout monitor_c.h repeats. */
+   The proved one is called as C calls it, over a lent state: host/monitor.h, whose layout monitor_c.h repeats. */
 #include "monitor_c.h"
 #include <stdio.h>
 #include <stdlib.h>

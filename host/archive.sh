@@ -5,16 +5,23 @@ set -euo pipefail
 cd "$(dirname "$0")/.."
 prefix='' package=gcc
 [ "$(uname -m)" = x86_64 ] || prefix=x86_64-linux-gnu- package=gcc-x86-64-linux-gnu
-command -v "${prefix}gcc" >/dev/null || { apt-get update -qq && apt-get install -y -qq "$package"; } >/dev/null
+command -v "${prefix}gcc" >/dev/null || tools/install "$package"
 out=target/host
+crates='host start_c manifest_c devicemap_c switch' # those with functions for firmware
 
+mkdir -p "$out"
+exec 9>"$out/lock" # two tests may ask for it at a time
+flock 9
 # an archive that is newer than all that it is made of is not made again
 if [ ! -s "$out/libhost.a" ] || [ -n "$(find crates crates.txt host -newer "$out/libhost.a" -print -quit)" ]; then
-    mkdir -p "$out"
-    rt staticlib host >target/staticlib-host.log 2>&1 || { tail -n 5 target/staticlib-host.log; exit 1; }
+    archives=()
+    for crate in $crates; do
+        rt staticlib "$crate" >"target/staticlib-$crate.log" 2>&1 || { tail -n 5 "target/staticlib-$crate.log"; exit 1; }
+        archives+=("target/staticlib/lib$crate.a")
+    done
     # one object, in which the name memmove is the archive's own
     "${prefix}gcc" -std=c11 -O2 -fPIC -ffreestanding -fno-tree-loop-distribute-patterns -Wall -Wextra -Werror -c host/memmove.c -o "$out/memmove.o"
-    "${prefix}ld" -r --whole-archive target/staticlib/libhost.a --no-whole-archive "$out/memmove.o" -o "$out/host.o"
+    "${prefix}ld" -r --whole-archive "${archives[@]}" --no-whole-archive "$out/memmove.o" -o "$out/host.o"
     "${prefix}objcopy" --localize-symbol=memmove "$out/host.o"
     rm -f "$out/libhost.a"
     "${prefix}ar" rcs "$out/libhost.a" "$out/host.o"

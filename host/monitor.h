@@ -1,7 +1,8 @@
 /* The monitor's interface for firmware in C11. Link libhost.a (host/archive.sh), x86-64, System V calling convention.
  *
  * What every function owes you: it ends, touches nothing but what it is lent, and answers as the rules say; each contract below is proved
- * (crates/host). No function keeps a pointer after it returns, allocates, or has state of its own, so several monitors may stand side by side.
+ * (crates/host, start_c, manifest_c, devicemap_c, switch). No function keeps a pointer after it returns, allocates, or has state of its own, so
+ * several monitors may stand side by side.
  *
  * What you owe every function:
  *  - a pointer is never NULL, also where the length beside it is 0, and is valid for that many bytes, initialised, while the call runs;

@@ -12,7 +12,7 @@ import sys
 
 ROOT = pathlib.Path(__file__).resolve().parent.parent
 HEAD = re.compile(r'\bpub\s+(?:extern\s+"C"\s+)?fn\s+(\w+)')
-ENTRY = {"start", "monitor", "manifest", "devicemap", "sha1", "sha1_c", "switch", "wellformed", "wellformed_c", "twin", "host"}
+ENTRY = {"start", "start_c", "monitor", "manifest", "manifest_c", "devicemap", "devicemap_c", "sha1", "sha1_c", "switch", "wellformed", "wellformed_c", "twin", "host"}
 IMPL = re.compile(r"^impl\s+(\w+)", re.M)
 
 

@@ -7,6 +7,8 @@ ROOT = pathlib.Path(__file__).resolve().parent.parent
 PAGES = [ROOT / "README.md", *sorted((ROOT / "docs").glob("*.md"))]
 SOURCES = {c.name: "\n".join(f.read_text(encoding="utf-8") for f in sorted(c.rglob("*")) if f.suffix in (".rt", ".antt"))
            for c in (ROOT / "crates").iterdir() if c.is_dir()}
+WRONG = {c.name: re.findall(r"^wrong: (\w+) of ", "\n".join(e.read_text(encoding="utf-8") for e in c.glob("must-fail/*.edit")), re.M)
+         for c in (ROOT / "crates").iterdir() if c.is_dir()}
 WORDS = set(re.findall(r"[\w′-]+", "\n".join(SOURCES.values())))
 PLAIN = {"ensures", "requires", "enum", "struct", "match", "usize", "memmove", "memcpy", "memset", "rt ci", "hex"}
 
@@ -18,8 +20,8 @@ def file_named(token):
 
 def known(token):
     """Whether a token of those two stands for something that is there."""
-    edit = re.fullmatch(r"(\w+)/(\w+)", token)
-    if edit and (ROOT / "crates" / edit.group(1) / "must-fail" / f"{edit.group(2)}.edit").exists():
+    wrong = re.fullmatch(r"(\w+)/(\w+)", token)
+    if wrong and wrong.group(2) in WRONG.get(wrong.group(1), ()):
         return True
     function = re.fullmatch(r"(\w+)::(\w+)", token)
     if function:  # of a crate, or of a type

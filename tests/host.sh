@@ -12,7 +12,7 @@ clang='clang' sanitizers=address,undefined
 install clang clang
 if [ "$sanitizers" = address,undefined ]; then # clang's own library of the sanitizer is a package of its own
     echo 'int main(void) { return 0; }' | clang -x c -fsanitize=address -o /dev/null - 2>/dev/null ||
-        { apt-get update -qq && apt-get install -y -qq "libclang-rt-$(clang -dumpversion | cut -d. -f1)-dev"; } >/dev/null
+        tools/install "libclang-rt-$(clang -dumpversion | cut -d. -f1)-dev"
 fi
 room=$(mktemp -d)
 trap 'rm -rf "$room"' EXIT

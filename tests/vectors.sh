@@ -7,7 +7,7 @@ cd "$(dirname "$0")/.."
 room=$(mktemp -d)
 trap 'rm -rf "$room"' EXIT
 published=/usr/lib/python3/dist-packages/cryptography_vectors
-[ -d "$published" ] || { apt-get update -qq && apt-get install -y -qq python3-cryptography-vectors; } >/dev/null
+[ -d "$published" ] || tools/install python3-cryptography-vectors
 python3 tests/vectors.py all "$room" "$@"
 tests/run vectors <"$room/stdin" >"$room/wrote"
 cat "$room/wrote"

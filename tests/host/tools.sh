@@ -1,6 +1,6 @@
 # Sourced by scripts that compile C against the archive: install COMMAND PACKAGE; $gcc and $run compile for x86-64 and run it here; flags.
 install() { # from Debian's packages, where the command is not there
-    command -v "$1" >/dev/null || { apt-get update -qq && apt-get install -y -qq "$2"; } >/dev/null
+    command -v "$1" >/dev/null || tools/install "$2"
 }
 gcc=gcc run=''
 if [ "$(uname -m)" != x86_64 ]; then

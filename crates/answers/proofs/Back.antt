@@ -3,14 +3,13 @@ use Prim.Native.Nat.{ℕ, zero, suc, _+_, _*_, _-_, _/_, _%_, _≤_, _<_, _^_}
 use native.Mathlib.Nat.{pow-suc, pow-zero, div-add-mod'}
 use native.Mathlib.Omega.{arith}
 use mathlib.Core.Path.{_≡_, refl, sym, subst, ap, _∙_}
-use mathlib.Core.Bool.{Bool, true, false}
+use mathlib.Core.Bool.{true, false}
 use mathlib.Core.Logic.{⊎-elim}
 use mathlib.Core.List.{List, [], _∷_, _++_}
 use lib.ListN.{length, getD, take, drop, length-append, List·getD-append, List·getD-eq-default, length-take}
 use lib.Seq.{getD-append-seam, getD-take}
 use lib.Dec.{ltb}
-use borrow.Author.Tests.{ltb-true, ltb-false, lt-ltb, le-ltb}
-use Rattle.lists.specs.Below.{pick}
+use borrow.Author.Tests.{ltb-true}
 use Rattle.lists.proofs.Logic.{decided, pick-true, pick-false, lt-or-ge}
 use Rattle.numerals.specs.Decimal.{digitValue, valueOf, digits, decimal}
 use Rattle.numerals.specs.Hex.{hexDigit, pairs}

@@ -2,19 +2,16 @@
 use Prim.Native.Nat.{ℕ, _+_, _*_, _≤_, _<_, _^_}
 use native.Mathlib.Omega.{arith}
 use mathlib.Core.Path.{_≡_, refl, sym, ap, _∙_}
-use mathlib.Core.Bool.{Bool, true, false}
 use mathlib.Core.List.{List, [], _∷_, _++_, append-cancel-left, append-cancel-right}
 use lib.ListN.{length, getD, take}
 use lib.Seq.{length-take-le}
 use lib.Dec.{ltb}
 use borrow.Author.Tests.{ltb-false}
-use Rattle.lists.specs.Below.{pick}
 use Rattle.lists.proofs.Logic.{decided, pick-true, pick-false}
-use Rattle.events.specs.declared.Answer.{Answer}
 use Rattle.events.specs.declared.Answer.the-variants.{Done, Slot, Entered, Left, Terminated, Filled, Refused}
 use Rattle.numerals.specs.Decimal.{decimal}
 use Rattle.numerals.specs.Hex.{pairs}
-use Rattle.answers.specs.Text.{clipped, mostShown, shownOf, ended, textOf, Fits, toldBytes, Determined}
+use Rattle.answers.specs.Text.{clipped, mostShown, shownOf, ended, Fits, Determined}
 use Rattle.answers.proofs.Back.{decimal-same, pairs-same, taken-bytes}
 
 -- the first two characters tell the kind of answer

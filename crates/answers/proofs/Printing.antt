@@ -2,13 +2,11 @@
 use Prim.Native.Nat.{ℕ, zero, suc, _+_, _*_, _/_, _%_, _≤_, _<_}
 use native.Mathlib.Omega.{arith}
 use mathlib.Core.Path.{_≡_, refl, sym, subst, ap, _∙_}
-use mathlib.Core.Bool.{Bool, true, false}
 use mathlib.Core.List.{List, [], _∷_, _++_, append-assoc}
-use lib.ListN.{length, getD, set, take, length-append, length-take}
+use lib.ListN.{length, set, take, length-append, length-take}
 use lib.Seq.{sets, length-sets}
 use lib.Dec.{ltb}
 use borrow.Author.Tests.{ltb-true, ltb-false, lt-ltb, le-ltb}
-use Rattle.lists.specs.Below.{pick}
 use Rattle.lists.proofs.Logic.{decided, pick-true, pick-false}
 use Rattle.lists.proofs.Parts.{sets-turn, sets-next}
 use Rattle.events.specs.declared.Answer.{Answer}

@@ -43,7 +43,7 @@ use Rattle.rules.specs.Plan.{refuse}
 use Rattle.rules.specs.Tests.{inRange, unlooked, keptAs, underMark, entryOf, callableAt, slotFor, withMode}
 use Rattle.rules.specs.Decide.{callRule, callEntry, entryFor, entered, returnRule, outFrom}
 use Rattle.touch.proofs.Plans.{pass, stop}
-use Rattle.touch.proofs.Ranges.{range-fits}
+use Rattle.rules.proofs.Ranges.{range-fits}
 use Rattle.touch.proofs.Ready.{right, few-pages, kept-in, runs-in, ready, long}
 use Rattle.change.specs.declared.Change.{Change}
 use Rattle.change.specs.declared.Turn.the-variants.{Enters, Leaves}

@@ -17,8 +17,6 @@ use Rattle.change.specs.declared.Change.{Change}
 use Rattle.change.specs.Turns.{changedBy, moves, turnOf, Fits}
 use Rattle.monitor.specs.Allowed as Allowed
 use Rattle.fields.specs.declared.Fields.{Fields}
-use Rattle.manifest.specs.declared.Written.{Written}
-use Rattle.manifest.specs.Writer.{wrote, writeManifest}
 use Rattle.twin.specs.declared.Monitor.{Monitor}
 use Rattle.twin.specs.declared.Request.{Request}
 use Rattle.twin.specs.declared.Reply.{Reply}
@@ -29,7 +27,7 @@ use Rattle.twin.specs.Asked.{askedOf, replyOf, unknownReply}
 use Rattle.twin.proofs.Laws.{given-back}
 use Rattle.twin.proofs.Monitor as monitor
 use Rattle.host.specs.declared.Heard.{Heard}
-use Rattle.host.specs.Host.{Hosted, Comes, renewedBy, hosted, shown, hostAsked, hostStep, Answered, answered, writtenReply, wroteOut, hostWrite}
+use Rattle.host.specs.Host.{Hosted, Comes, renewedBy, hosted, shown, hostAsked, hostStep}
 
 by-asked : (m : Monitor) (q : Request) (payload memory buffer : List ℕ) (a : Asked) → a ≡ askedOf q → hostAsked a m payload memory buffer ≡ hostStep m q payload memory buffer
 unfolding hostStep
@@ -75,8 +73,3 @@ not-carried m q payload memory buffer r a c b ea er ec =
       stays = λ _. k;
       fits = subst (λ (x : Change). Fits (openedOf m) (x .turn) (x .fields)) (sym ec) tt;
     }
-
--- the writer's answer and buffer, as C sees them
-pub wrote-out : (f : Fields) (buffer buffer′ : List ℕ) (w : Written) (r : Reply) → wrote w buffer′ ≡ writeManifest f buffer → r ≡ writtenReply w → answered r buffer′ ≡ hostWrite f buffer
-unfolding hostWrite
-wrote-out f buffer buffer′ w r ew er = (λ i. answered (er i) buffer′) ∙ ap wroteOut ew

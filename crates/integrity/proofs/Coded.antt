@@ -2,7 +2,6 @@
 use Prim.Native.Nat.{ℕ, _+_, _<_}
 use native.Mathlib.Omega.{arith}
 use mathlib.Core.Path.{_≡_, refl, sym, ap, subst, _∙_}
-use mathlib.Core.Logic.{_≢_}
 use mathlib.Core.Bool.{true, _&&_, not, false≢true}
 use mathlib.Core.List.{[], _∷_}
 use lib.ListN.{length}

@@ -10,7 +10,6 @@ use Rattle.lists.specs.Below.{pick}
 use Rattle.lists.proofs.First.{first-at}
 use Rattle.lists.proofs.Logic.{and-l, and-r}
 use Rattle.geometry.specs.Geometry.{pageOf}
-use Rattle.memory.specs.declared.Source.{Source}
 use Rattle.fields.specs.declared.Fields.{Fields}
 use Rattle.fields.specs.Fields.{entryAt}
 use Rattle.fields.specs.Rules.{inCode}
@@ -24,15 +23,15 @@ use Rattle.state.specs.Face.{Face, faceOf, stateOf, cardAt}
 use Rattle.state.proofs.Faces.{card-at}
 use Rattle.wellformed.specs.WellFormed.{wellFormed}
 use Rattle.events.specs.declared.Event.{Event}
-use Rattle.events.specs.declared.Event.the-variants.{Register, Unregister, Call, Return, Jump, Read, Write, DeviceRead, DeviceWrite, Extend, PcrRead}
-use Rattle.events.specs.declared.Answer.{Answer}
+use Rattle.events.specs.declared.Event.the-variants.{Call, Jump}
 use Rattle.events.specs.declared.Answer.the-variants as answer
 use Rattle.rules.specs.Plan.{nothing, keep, same, Plan, guard, still}
-use Rattle.rules.specs.Tests.{Access, execute, isOwn, ownCode, mayReach, isEntryAt, entryOf, slotFor, withCard}
-use Rattle.rules.specs.Decide.{released, registered, registerRule, unregisterRule, entered, callEntry, callRule, returnRule, jumpLegacy, jumpSecure, readRule, writeRule, extendRule, pcrRule, legacyOnly, secureOnly, byMode, ruleIn, decide}
+use Rattle.rules.specs.Tests.{isOwn, ownCode, isEntryAt, entryOf, slotFor, withCard}
+use Rattle.rules.specs.Decide.{released, registered, registerRule, unregisterRule, entered, callEntry, callRule, returnRule, jumpLegacy, jumpSecure, readRule, writeRule, extendRule, pcrRule, ruleIn, decide}
 use Rattle.rules.specs.Act.{step}
+use Rattle.rules.proofs.Facts.{Callable, callable}
+use Rattle.rules.proofs.ByRule.{checked, ByRule, by-rule}
 use Rattle.integrity.specs.Code.{cardIn, Enters, EnteredByCall, JumpsStay}
-use Rattle.integrity.proofs.Shut.{Callable, callable}
 
 -- an entry found has the address
 pub entry-at : (x : Fields) (a : ℕ) → entryOf x a < x .e → entryAt x (entryOf x a) .address ≡ a
@@ -53,95 +52,40 @@ module _ (f : Face) where
   abbrev Before : Event → Plan → Type 0
   Before e p = (k : ℕ) → p .next .mode ≡ Secure k → (f .mode ≡ Secure k) ⊎ Calls f k e
 
-  guarded : (e : Event) (t : Bool) (n : ℕ) (p : Plan) → (t ≡ true → Before e p) → Before e (guard t n f p)
-  unfolding guard
-  guarded e true n p h = h refl
-  guarded e false n p h = λ k q. inl q
+  guarded : {e : Event} (t : Bool) (n : ℕ) (p : Plan) → (t ≡ true → Before e p) → Before e (guard t n f p)
+  guarded {e} t n p h = checked (Before e) t n f p (λ k q. inl q) h
 
   never : {A : Type 0} (k : ℕ) → Legacy ≡ Secure k → A
   never k q = let z : _≡_ {A = ℕ} 0 1 = cc in absurd (omega arith)
 
-  register-before : (mark : ℕ) (x : Reading) → Before (Register mark) (registerRule f mark x)
-  unfolding registerRule registered withCard
-  register-before mark x = guarded _ _ 3 _ λ a. guarded _ _ 6 _ λ b. guarded _ _ 7 _ λ c. λ k q. inl q
-
-  released-before : (e : Event) (j : ℕ) (a : Answer) → Before e (released f j a)
-  unfolding released
-  released-before e j a = λ k q. never k q
-
-  unregister-before : (mark j : ℕ) → Before (Unregister mark j) (unregisterRule f mark j)
-  unfolding unregisterRule
-  unregister-before mark j = guarded _ _ 8 _ λ t. released-before (Unregister mark j) j answer.Done
-
   call-before : (mark a i o : ℕ) → Before (Call mark a i o) (callRule f mark a i o)
   unfolding callRule callEntry entered
   call-before mark a i o =
-      guarded _ _ 8 _ λ s. guarded _ _ 4 _ λ b. guarded _ _ 4 _ λ c. guarded _ _ 5 _ λ d. guarded _ _ 5 _ λ g.
+      guarded _ 8 _ λ s. guarded _ 4 _ λ b. guarded _ 4 _ λ c. guarded _ 5 _ λ d. guarded _ 5 _ λ g.
       λ k q. let e : slotFor f mark a ≡ k = cc in
       inr (record { mark = mark; address = a; input = i; output = o; event = refl; can = subst (λ (j : ℕ). Callable f mark a j) e (callable f mark a s) })
 
-  return-before : (j : ℕ) → Before Return (returnRule f j)
-  unfolding returnRule
-  return-before j = λ k q. never k q
-
-  jump-before : (a : ℕ) → Before (Jump a) (jumpLegacy f a)
-  unfolding jumpLegacy
-  jump-before a = guarded _ _ 4 _ λ b. guarded _ _ 5 _ λ c. λ k q. inl q
-
-  picked : (e : Event) (t : Bool) (p q : Plan) → Before e p → Before e q → Before e (pick t p q)
-  picked e true p q h g = h
-  picked e false p q h g = g
-
-  stay-before : (j a : ℕ) → Before (Jump a) (jumpSecure f j a)
-  unfolding jumpSecure
-  stay-before j a =
-      picked (Jump a) (mayReach (Secure j) f execute (pageOf a)) (still f nothing keep same answer.Done) (released f j (answer.Terminated j)) (λ k q. inl q) (released-before (Jump a) j (answer.Terminated j))
-
-  read-before : (e : Event) (m : Mode) (access : Access) (room a n : ℕ) → Before e (readRule m f access room a n)
-  unfolding readRule
-  read-before e m access room a n = guarded _ _ 4 _ λ b. guarded _ _ 5 _ λ c. guarded _ _ 9 _ λ d. λ k q. inl q
-
-  write-before : (e : Event) (m : Mode) (access : Access) (a n : ℕ) → Before e (writeRule m f access a n)
-  unfolding writeRule
-  write-before e m access a n = guarded _ _ 4 _ λ b. guarded _ _ 5 _ λ c. λ k q. inl q
-
-  extend-before : (j size i : ℕ) (source : Source) (a n : ℕ) → Before (Extend i source a n) (extendRule f j size i source a n)
-  unfolding extendRule
-  extend-before j size i source a n = guarded _ _ 10 _ λ b. guarded _ _ 4 _ λ c. guarded _ _ 5 _ λ d. λ k q. inl q
-
-  pcr-before : (j room i : ℕ) → Before (PcrRead i) (pcrRule f j room i)
-  unfolding pcrRule
-  pcr-before j room i = guarded _ _ 10 _ λ b. guarded _ _ 9 _ λ c. λ k q. inl q
-
-  in-legacy : (e : Event) (m : Mode) (p : Plan) → Before e p → Before e (legacyOnly m f p)
-  in-legacy e Legacy p h = h
-  in-legacy e (Secure j) p h = λ k q. inl q
-
-  in-secure : (e : Event) (m : Mode) (p : ℕ → Plan) → ((j : ℕ) → Before e (p j)) → Before e (secureOnly m f p)
-  in-secure e Legacy p h = λ k q. inl q
-  in-secure e (Secure j) p h = h j
-
-  in-either : (e : Event) (m : Mode) (p : Plan) (q : ℕ → Plan) → Before e p → ((j : ℕ) → Before e (q j)) → Before e (byMode m p q)
-  in-either e Legacy p q h g = h
-  in-either e (Secure j) p q h g = g j
-
-  rule-before : (m : Mode) (room size : ℕ) (x : Reading) (e : Event) → Before e (ruleIn m f room size x e)
-  unfolding ruleIn
-  rule-before m room size x (Register mark) = in-legacy _ m _ (register-before mark x)
-  rule-before m room size x (Unregister mark j) = in-legacy _ m _ (unregister-before mark j)
-  rule-before m room size x (Call mark a i o) = in-legacy _ m _ (call-before mark a i o)
-  rule-before m room size x Return = in-secure _ m _ return-before
-  rule-before m room size x (Jump a) = in-either _ m _ _ (jump-before a) (λ j. stay-before j a)
-  rule-before m room size x (Read a n) = read-before (Read a n) m _ room a n
-  rule-before m room size x (Write a) = write-before (Write a) m _ a size
-  rule-before m room size x (DeviceRead a n) = read-before (DeviceRead a n) m _ room a n
-  rule-before m room size x (DeviceWrite a) = write-before (DeviceWrite a) m _ a size
-  rule-before m room size x (Extend i source a n) = in-secure _ m _ (λ j. extend-before j size i source a n)
-  rule-before m room size x (PcrRead i) = in-secure _ m _ (λ j. pcr-before j room i)
+  by-rules : (room size : ℕ) (x : Reading) → ByRule f room size x (λ e m p. Before e p)
+  unfolding registerRule registered withCard unregisterRule released returnRule jumpLegacy readRule writeRule extendRule pcrRule
+  by-rules room size x =
+      record {
+        registers = λ mark _. guarded _ 3 _ λ a. guarded _ 6 _ λ b. guarded _ 7 _ λ c k q. inl q;
+        unregisters = λ mark j _. guarded _ 8 _ λ t k q. never k q;
+        calls = λ mark a i o _. call-before mark a i o;
+        returns = λ j _ k q. never k q;
+        jumps = λ a _. guarded _ 4 _ λ b. guarded _ 5 _ λ c k q. inl q;
+        stays = λ a j _ k q. inl q;
+        leaves = λ a j _ k q. never k q;
+        reads = λ a n. guarded _ 4 _ λ b. guarded _ 5 _ λ c. guarded _ 9 _ λ d k q. inl q;
+        writes = λ a. guarded _ 4 _ λ b. guarded _ 5 _ λ c k q. inl q;
+        device-reads = λ a n. guarded _ 4 _ λ b. guarded _ 5 _ λ c. guarded _ 9 _ λ d k q. inl q;
+        device-writes = λ a. guarded _ 4 _ λ b. guarded _ 5 _ λ c k q. inl q;
+        extends = λ i source a n j _. guarded _ 10 _ λ b. guarded _ 4 _ λ c. guarded _ 5 _ λ d k q. inl q;
+        pcr-reads = λ i j _. guarded _ 10 _ λ b. guarded _ 9 _ λ c k q. inl q;
+      }
 
   decide-before : (ok : Bool) (room size : ℕ) (x : Reading) (e : Event) → Before e (decide f ok room size x e)
-  unfolding decide
-  decide-before ok room size x e = guarded e ok 1 _ λ h. rule-before (f .mode) room size x e
+  decide-before ok room size x = by-rule f room size x (λ e m p. Before e p) (λ e n a b k q. inl q) ok (λ t. by-rules room size x)
 
 enters : (s : State) (k : ℕ) (e : Event) → Calls (faceOf s) k e → Enters s k e
 enters s k e x =

@@ -33,7 +33,8 @@ use Rattle.rules.proofs.Lists.{gather-same}
 use Rattle.preserved.specs.Preserved.{Well, Ask, afterOne, after}
 use Rattle.preserved.proofs.Stays.{read-keeps, stored-long, face-right, step-well, step-pages, step-kept}
 use Rattle.integrity.specs.Monitor.{monitorFrom, MonitorKept, AlikeBelow, Shown, shownBy, shown, Unseen, MonitorUnseen}
-use Rattle.integrity.proofs.Spared.{Apart, stored-spares}
+use Rattle.rules.proofs.Ranges.{Apart}
+use Rattle.integrity.proofs.Spared.{stored-spares}
 use Rattle.integrity.proofs.Shut.{Shut, decide-off}
 use Rattle.integrity.proofs.Blind.{FetchOff, StoreOff, SourceOff, SealOff, Blind, Hidden, decide-blind}
 

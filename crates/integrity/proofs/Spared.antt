@@ -1,45 +1,23 @@
--- Ranges, and pages that a store spares.
-use Prim.Native.Nat.{ℕ, _+_, _*_, _%_, _≤_, _<_}
+-- Pages that a store spares.
+use Prim.Native.Nat.{ℕ, _+_, _*_, _≤_, _<_}
 use native.Mathlib.Omega.{arith}
 use native.Mathlib.Nat.{div-add-mod'}
 use mathlib.Core.Path.{_≡_, refl, _∙_}
 use mathlib.Core.Logic.{⊎-elim}
 use mathlib.Core.Bool.{true}
 use mathlib.Core.List.{List, [], _∷_}
-use lib.Dec.{leb, eqb}
+use lib.Dec.{eqb}
 use lib.ListN.{length, getD}
 use lib.Seq.{sets}
-use borrow.Author.Tests.{leb-true, ltb-true, eq-eqb}
+use borrow.Author.Tests.{eq-eqb}
 use Rattle.lists.specs.Bytes.{part, zeros, wipe}
-use Rattle.lists.proofs.Logic.{and-l, and-r, or-left, or-right, lt-or-ge}
+use Rattle.lists.proofs.Logic.{or-left, or-right, lt-or-ge}
 use Rattle.lists.proofs.Parts.{part-few, zeros-long, sets-before, sets-after}
-use Rattle.geometry.specs.Geometry.{pageSize, isRange, pageOf}
+use Rattle.geometry.specs.Geometry.{pageSize, pageOf}
 use Rattle.fields.proofs.PageLaws.{listed}
 use Rattle.rules.specs.Plan.{Store, keep, put, move, clean}
 use Rattle.rules.specs.Act.{stored}
-
--- ---- ranges
-
-pub record Range (p a n : ℕ) : Type 0 where
-  pub some : 1 ≤ n
-  pub inPage : a % pageSize + n ≤ pageSize
-  pub inside : pageOf a < p
-
-pub range : (p a n : ℕ) → isRange p a n ≡ true → Range p a n
-unfolding isRange
-range p a n h =
-    let t = and-r (leb n pageSize) _ (and-r (leb 1 n) _ h) in
-    record {
-      some = leb-true 1 n (and-l (leb 1 n) _ h);
-      inPage = leb-true (a % pageSize + n) pageSize (and-l (leb (a % pageSize + n) pageSize) _ t);
-      inside = ltb-true (pageOf a) p (and-r (leb (a % pageSize + n) pageSize) _ t);
-    }
-
--- ---- what is written
-
--- none of the n bytes from a is on a page of Q
-abbrev pub Apart : (ℕ → Type 0) → ℕ → ℕ → Type 0
-Apart Q a n = (i : ℕ) → a ≤ i → i < a + n → Q (pageOf i) → ⊥
+use Rattle.rules.proofs.Ranges.{Apart}
 
 abbrev pub Spares : (ℕ → Type 0) → ℕ → Store → Type 0
 Spares Q size keep = Unit {0}

@@ -1,18 +1,14 @@
 -- An accepted answer fills the first n bytes of the buffer.
-use Prim.Native.Nat.{ℕ, _+_, _%_, _≤_, _<_}
+use Prim.Native.Nat.{ℕ, _+_, _≤_, _<_}
 use native.Mathlib.Omega.{arith}
-use native.Mathlib.Nat.{div-add-mod'}
 use mathlib.Core.Path.{_≡_, refl, ap, _∙_}
 use mathlib.Core.Bool.{true}
 use mathlib.Core.List.{List, [], _++_}
-use lib.Dec.{leb}
 use lib.ListN.{length, getD, drop}
 use lib.Seq.{sets, sets-eq}
-use borrow.Author.Tests.{leb-true, ltb-true}
 use Rattle.lists.specs.Bytes.{part}
-use Rattle.lists.proofs.Logic.{and-l, and-r}
 use Rattle.lists.proofs.Parts.{part-long}
-use Rattle.geometry.specs.Geometry.{pageSize, slotCount, pcrCount, digestSize, isRange, pageOf, startOf}
+use Rattle.geometry.specs.Geometry.{slotCount, pcrCount, digestSize, isRange}
 use Rattle.sha1.specs.declared.Digest.{Digest}
 use Rattle.manifest.specs.Reader.{readManifest}
 use Rattle.state.specs.declared.Mode.{Mode}
@@ -30,18 +26,10 @@ use Rattle.events.specs.declared.Event.{Event}
 use Rattle.events.specs.declared.Event.the-variants.{Register, Unregister, Call, Return, Jump, Read, Write, DeviceRead, DeviceWrite, Extend, PcrRead}
 use Rattle.rules.specs.Plan.{Plan}
 use Rattle.rules.specs.Act.{fetched, act, planOf, step}
+use Rattle.rules.proofs.Ranges.{range-fits}
 use Rattle.kept.specs.Buffers.{asked, wanted, Fills, AnswersFill}
 use Rattle.kept.proofs.Outcome.{fetchFor, Had, Outcome, refused, accepted, Accepts, passed}
 use Rattle.kept.proofs.Refused.{planned, zero-accepts}
-
--- a range of p pages ends in them
-pub range-ends : (p a n : ℕ) → isRange p a n ≡ true → a + n ≤ startOf p
-unfolding isRange
-range-ends p a n h =
-    let t = and-r (leb n pageSize) _ (and-r (leb 1 n) _ h) in
-    let b = leb-true (a % pageSize + n) pageSize (and-l (leb (a % pageSize + n) pageSize) _ t) in
-    let d = ltb-true (pageOf a) p (and-r (leb (a % pageSize + n) pageSize) _ t) in
-    omega (arith, div-add-mod' a pageSize)
 
 -- what is fetched is what is wanted
 fetch-wanted : (mode : Mode) (e : Event) (pcrs : List (List Digest)) (m buffer : List ℕ) → fetched (fetchFor mode e) pcrs m buffer ≡ sets buffer 0 (wanted mode pcrs m e)
@@ -72,7 +60,7 @@ fill bs buffer n q l =
 
 module _ (s : State) (shape : StateShape s) (m : List ℕ) (w : wellFormed s (length m) ≡ true) where
   range-long : (a n : ℕ) → isRange (s .pages) a n ≡ true → length (part m a n) ≡ n
-  range-long a n h = part-long m a n (omega (arith, range-ends (s .pages) a n h, well-long s (length m) w))
+  range-long a n h = part-long m a n (omega (arith, range-fits (s .pages) a n h, well-long s (length m) w))
 
   -- there are as many bytes as are asked for
   wanted-long : (mode : Mode) → modeRight (faceOf s) mode ≡ true → (e : Event) → Had (faceOf s) mode e → length (wanted mode (pcrsOf s) m e) ≡ asked e

@@ -2,24 +2,23 @@
 use Prim.Native.Nat.{ℕ, _≤_, _<_}
 use native.Mathlib.Omega.{arith}
 use mathlib.Core.Path.{_≡_, refl}
-use mathlib.Core.Bool.{Bool, true, false}
+use mathlib.Core.Bool.{Bool, true, false, _&&_}
+use lib.Dec.{leb}
 use borrow.Author.Tests.{leb-true, ltb-true}
-use Rattle.lists.specs.Below.{pick}
-use Rattle.geometry.specs.Geometry.{pcrCount, isRange, digestSize, pageOf}
-use Rattle.memory.specs.declared.Source.{Source}
+use Rattle.lists.proofs.Logic.{and-l, and-r}
+use Rattle.geometry.specs.Geometry.{pcrCount, isRange, digestSize}
 use Rattle.manifest.specs.declared.Reading.{Reading}
 use Rattle.state.specs.declared.Mode.{Mode}
 use Rattle.state.specs.declared.Mode.the-variants.{Legacy, Secure}
 use Rattle.state.specs.Face.{Face}
-use Rattle.fields.specs.declared.Entry.{Entry}
 use Rattle.events.specs.declared.Event.{Event}
 use Rattle.events.specs.declared.Event.the-variants.{Register, Unregister, Call, Return, Jump, Read, Write, DeviceRead, DeviceWrite, Extend, PcrRead}
 use Rattle.events.specs.declared.Answer.{Answer}
 use Rattle.events.specs.declared.Answer.the-variants as answer
 use Rattle.events.specs.Answers.{toldBy, fills}
-use Rattle.rules.specs.Plan.{Fetch, nothing, bytes, pcr, keep, same, Plan, refuse, guard, still}
-use Rattle.rules.specs.Tests.{Access, execute, mayReach}
-use Rattle.rules.specs.Decide.{released, registered, registerRule, unregisterRule, entered, callEntry, callRule, returnRule, jumpLegacy, jumpSecure, readRule, writeRule, extendRule, pcrRule, legacyOnly, secureOnly, byMode, ruleIn, decide}
+use Rattle.rules.specs.Plan.{Fetch, nothing, bytes, pcr, Plan, refuse, guard}
+use Rattle.rules.specs.Decide.{released, registered, registerRule, unregisterRule, entered, callEntry, callRule, returnRule, jumpLegacy, readRule, writeRule, extendRule, pcrRule, decide}
+use Rattle.rules.proofs.ByRule.{checked, ByRule, by-rule}
 use Rattle.kept.specs.Buffers.{asked}
 
 -- what an accepted event fetches
@@ -83,101 +82,31 @@ pub data Outcome (f : Face) (m : Mode) (room : ℕ) (e : Event) (p : Plan) : Typ
   accepted : Accepts (p .answer) → fills (p .answer) ≡ asked e → asked e ≤ room → p .fetch ≡ fetchFor m e → Had f m e → Outcome f m room e p
 
 module _ (f : Face) (room : ℕ) where
-  guarded : (m : Mode) (e : Event) (t : Bool) (r : ℕ) (p : Plan) → 1 ≤ r → r ≤ 10 → (t ≡ true → Outcome f m room e p) → Outcome f m room e (guard t r f p)
-  unfolding guard
-  guarded m e true r p a b h = h refl
-  guarded m e false r p a b h = refused r a b refl
+  guarded : {m : Mode} {e : Event} (t : Bool) (r : ℕ) (p : Plan) → leb 1 r && leb r 10 ≡ true → (t ≡ true → Outcome f m room e p) → Outcome f m room e (guard t r f p)
+  guarded {m} {e} t r p a h = checked (Outcome f m room e) t r f p (refused r (leb-true 1 r (and-l (leb 1 r) _ a)) (leb-true r 10 (and-r (leb 1 r) _ a)) refl) h
 
-  picked : (m : Mode) (e : Event) (t : Bool) (p q : Plan) → Outcome f m room e p → Outcome f m room e q → Outcome f m room e (pick t p q)
-  picked m e true p q h g = h
-  picked m e false p q h g = g
-
-  register-out : (m : Mode) (mark : ℕ) (x : Reading) → Outcome f m room (Register mark) (registerRule f mark x)
-  unfolding registerRule registered
-  register-out m mark x =
-      guarded m _ _ 3 _ (omega arith) (omega arith) λ a. guarded m _ _ 6 _ (omega arith) (omega arith) λ b. guarded m _ _ 7 _ (omega arith) (omega arith) λ c.
-      accepted tt refl (omega arith) refl tt
-
-  unregister-out : (m : Mode) (mark k : ℕ) → Outcome f m room (Unregister mark k) (unregisterRule f mark k)
-  unfolding unregisterRule released
-  unregister-out m mark k = guarded m _ _ 8 _ (omega arith) (omega arith) λ a. accepted tt refl (omega arith) refl tt
-
-  entry-out : (m : Mode) (mark a k : ℕ) (x : Entry) (i o : ℕ) → Outcome f m room (Call mark a i o) (callEntry f k x i o)
-  unfolding callEntry entered
-  entry-out m mark a k x i o =
-      guarded m _ _ 4 _ (omega arith) (omega arith) λ b. guarded m _ _ 4 _ (omega arith) (omega arith) λ c.
-      guarded m _ _ 5 _ (omega arith) (omega arith) λ d. guarded m _ _ 5 _ (omega arith) (omega arith) λ g.
-      accepted tt refl (omega arith) refl tt
-
-  call-out : (m : Mode) (mark a i o : ℕ) → Outcome f m room (Call mark a i o) (callRule f mark a i o)
-  unfolding callRule
-  call-out m mark a i o = guarded m _ _ 8 _ (omega arith) (omega arith) λ b. entry-out m mark a _ _ i o
-
-  return-out : (m : Mode) (k : ℕ) → Outcome f m room Return (returnRule f k)
-  unfolding returnRule
-  return-out m k = accepted tt refl (omega arith) refl tt
-
-  jump-out : (m : Mode) (a : ℕ) → Outcome f m room (Jump a) (jumpLegacy f a)
-  unfolding jumpLegacy
-  jump-out m a = guarded m _ _ 4 _ (omega arith) (omega arith) λ b. guarded m _ _ 5 _ (omega arith) (omega arith) λ c. accepted tt refl (omega arith) refl tt
-
-  stay-out : (m : Mode) (k a : ℕ) → Outcome f m room (Jump a) (jumpSecure f k a)
-  unfolding jumpSecure released
-  stay-out m k a = picked m _ (mayReach (Secure k) f execute (pageOf a)) (still f nothing keep same answer.Done) (released f k (answer.Terminated k)) (accepted tt refl (omega arith) refl tt) (accepted tt refl (omega arith) refl tt)
-
-  read-out : (m : Mode) (access : Access) (e : Event) (a n : ℕ) → asked e ≡ n → fetchFor m e ≡ bytes a n → Had f m e ≡ (isRange (f .pages) a n ≡ true) → Outcome f m room e (readRule m f access room a n)
-  unfolding readRule
-  read-out m access e a n p q h =
-      guarded m _ _ 4 _ (omega arith) (omega arith) λ b. guarded m _ _ 5 _ (omega arith) (omega arith) λ c. guarded m _ _ 9 _ (omega arith) (omega arith) λ d.
-      accepted tt (rw p) (rw p (leb-true n room d)) (rw q) (rw h b)
-
-  write-out : (m : Mode) (access : Access) (e : Event) (a n : ℕ) → asked e ≡ 0 → fetchFor m e ≡ nothing → Had f m e → Outcome f m room e (writeRule m f access a n)
-  unfolding writeRule
-  write-out m access e a n p q h =
-      guarded m _ _ 4 _ (omega arith) (omega arith) λ b. guarded m _ _ 5 _ (omega arith) (omega arith) λ c.
-      accepted tt (rw p) (rw p (omega arith)) (rw q) h
-
-  extend-out : (m : Mode) (k size i : ℕ) (source : Source) (a n : ℕ) → Outcome f m room (Extend i source a n) (extendRule f k size i source a n)
-  unfolding extendRule
-  extend-out m k size i source a n =
-      guarded m _ _ 10 _ (omega arith) (omega arith) λ b. guarded m _ _ 4 _ (omega arith) (omega arith) λ c. guarded m _ _ 5 _ (omega arith) (omega arith) λ d.
-      accepted tt refl (omega arith) refl tt
-
-  pcr-out : (k i : ℕ) → Outcome f (Secure k) room (PcrRead i) (pcrRule f k room i)
-  unfolding pcrRule
-  pcr-out k i =
-      guarded (Secure k) _ _ 10 _ (omega arith) (omega arith) λ b. guarded (Secure k) _ _ 9 _ (omega arith) (omega arith) λ c.
-      accepted tt refl (leb-true digestSize room c) refl (ltb-true i pcrCount b)
-
-  in-legacy : (m : Mode) (e : Event) (p : Plan) → Outcome f m room e p → Outcome f m room e (legacyOnly m f p)
-  in-legacy Legacy e p h = h
-  in-legacy (Secure k) e p h = refused 2 (omega arith) (omega arith) refl
-
-  in-secure : (m : Mode) (e : Event) (r : ℕ → Plan) → ((k : ℕ) → Outcome f (Secure k) room e (r k)) → Outcome f m room e (secureOnly m f r)
-  in-secure Legacy e r h = refused 2 (omega arith) (omega arith) refl
-  in-secure (Secure k) e r h = h k
-
-  in-either : (m : Mode) (e : Event) (p : Plan) (r : ℕ → Plan) → Outcome f m room e p → ((k : ℕ) → Outcome f m room e (r k)) → Outcome f m room e (byMode m p r)
-  in-either Legacy e p r h g = h
-  in-either (Secure k) e p r h g = g k
-
-  rule-out : (m : Mode) (size : ℕ) (x : Reading) (e : Event) → Outcome f m room e (ruleIn m f room size x e)
-  unfolding ruleIn
-  rule-out m size x (Register mark) = in-legacy m _ _ (register-out m mark x)
-  rule-out m size x (Unregister mark k) = in-legacy m _ _ (unregister-out m mark k)
-  rule-out m size x (Call mark a i o) = in-legacy m _ _ (call-out m mark a i o)
-  rule-out m size x Return = in-secure m _ _ (λ k. return-out (Secure k) k)
-  rule-out m size x (Jump a) = in-either m _ _ _ (jump-out m a) (λ k. stay-out m k a)
-  rule-out m size x (Read a n) = read-out m _ (Read a n) a n refl refl refl
-  rule-out m size x (Write a) = write-out m _ (Write a) a size refl refl tt
-  rule-out m size x (DeviceRead a n) = read-out m _ (DeviceRead a n) a n refl refl refl
-  rule-out m size x (DeviceWrite a) = write-out m _ (DeviceWrite a) a size refl refl tt
-  rule-out m size x (Extend i source a n) = in-secure m _ _ (λ k. extend-out (Secure k) k size i source a n)
-  rule-out m size x (PcrRead i) = in-secure m _ _ (λ k. pcr-out k i)
+  by-rules : (size : ℕ) (x : Reading) → ByRule f room size x (λ e m p. Outcome f m room e p)
+  unfolding registerRule registered unregisterRule released callRule callEntry entered returnRule jumpLegacy readRule writeRule extendRule pcrRule
+  by-rules size x =
+      record {
+        registers = λ mark q. guarded _ 3 _ refl λ a. guarded _ 6 _ refl λ b. guarded _ 7 _ refl λ c. accepted tt refl (omega arith) refl tt;
+        unregisters = λ mark k q. guarded _ 8 _ refl λ a. accepted tt refl (omega arith) refl tt;
+        calls = λ mark a i o q. guarded _ 8 _ refl λ b. guarded _ 4 _ refl λ c. guarded _ 4 _ refl λ d. guarded _ 5 _ refl λ g. guarded _ 5 _ refl λ h.
+            accepted tt refl (omega arith) refl tt;
+        returns = λ k q. accepted tt refl (omega arith) refl tt;
+        jumps = λ a q. guarded _ 4 _ refl λ b. guarded _ 5 _ refl λ c. accepted tt refl (omega arith) refl tt;
+        stays = λ a k q. accepted tt refl (omega arith) refl tt;
+        leaves = λ a k q. accepted tt refl (omega arith) refl tt;
+        reads = λ a n. guarded _ 4 _ refl λ b. guarded _ 5 _ refl λ c. guarded _ 9 _ refl λ d. accepted tt refl (leb-true n room d) refl b;
+        writes = λ a. guarded _ 4 _ refl λ b. guarded _ 5 _ refl λ c. accepted tt refl (omega arith) refl tt;
+        device-reads = λ a n. guarded _ 4 _ refl λ b. guarded _ 5 _ refl λ c. guarded _ 9 _ refl λ d. accepted tt refl (leb-true n room d) refl b;
+        device-writes = λ a. guarded _ 4 _ refl λ b. guarded _ 5 _ refl λ c. accepted tt refl (omega arith) refl tt;
+        extends = λ i source a n k q. guarded _ 10 _ refl λ b. guarded _ 4 _ refl λ c. guarded _ 5 _ refl λ d. accepted tt refl (omega arith) refl tt;
+        pcr-reads = λ i k q. guarded _ 10 _ refl λ b. guarded _ 9 _ refl λ c. accepted tt refl (leb-true digestSize room c) refl (ltb-true i pcrCount b);
+      }
 
   pub outcome : (ok : Bool) (size : ℕ) (x : Reading) (e : Event) → Outcome f (f .mode) room e (decide f ok room size x e)
-  unfolding decide
-  outcome ok size x e = guarded (f .mode) e ok 1 _ (omega arith) (omega arith) λ h. rule-out (f .mode) size x e
+  outcome ok size x = by-rule f room size x (λ e m p. Outcome f m room e p) (λ e n a b. refused n a b refl) ok (λ t. by-rules size x)
 
 -- only where check 1 passed
 pub passed : (f : Face) (ok : Bool) (room size : ℕ) (x : Reading) (e : Event) → Accepts (decide f ok room size x e .answer) → ok ≡ true

@@ -1,11 +1,11 @@
 -- How fields are found.
-use Prim.Native.Nat.{ℕ, zero, suc, _+_, _/_, _≤_, _<_}
+use Prim.Native.Nat.{ℕ, zero, suc, _+_, _/_, _≤_}
 use native.Mathlib.Numerals.{add-one}
 use native.Mathlib.Omega.{arith}
 use mathlib.Core.Path.{_≡_, refl, sym, subst, ap, _∙_}
-use mathlib.Core.Bool.{Bool, true, false, _&&_}
-use mathlib.Core.List.{List, []}
-use lib.ListN.{length, getD, take, drop, drop-of-length-le, length-drop, length-take}
+use mathlib.Core.Bool.{Bool, true, false}
+use mathlib.Core.List.{List}
+use lib.ListN.{length, take, drop, drop-of-length-le, length-drop, length-take}
 use lib.Dec.{eqb}
 use borrow.Author.Tests.{ne-eqb, eq-eqb}
 use Rattle.lists.specs.Below.{pick, all-below}
@@ -15,7 +15,7 @@ use Rattle.lines.specs.declared.Verb.{Verb}
 use Rattle.lines.specs.declared.Verb.the-variants as verb
 use Rattle.lines.specs.declared.Shape.{Shape}
 use Rattle.lines.specs.Grammar.{longestLine, payloadRoom, shapeOf}
-use Rattle.lines.specs.Fields.{space, fieldEnd, spaceAt, fieldCount, restOf, restAfter, field, sameAt, sameText}
+use Rattle.lines.specs.Fields.{space, fieldEnd, restOf, restAfter, field, sameAt, sameText}
 
 pub end-le : (l : List ℕ) (e : ℕ) → e ≡ fieldEnd l → e ≤ length l
 end-le l e h = place-le l space e h

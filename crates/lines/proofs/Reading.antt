@@ -1,14 +1,12 @@
 -- What a line says, from what was found of it.
 use Prim.Native.Nat.{ℕ, _+_, _/_, _≤_, _<_}
-use native.Mathlib.Omega.{arith}
-use mathlib.Core.Path.{_≡_, refl, sym, subst, ap, _∙_}
+use mathlib.Core.Path.{_≡_, refl, sym, ap, _∙_}
 use mathlib.Core.Bool.{Bool, true, false, _&&_, _||_, not, and-false}
 use mathlib.Core.List.{List, []}
 use lib.ListN.{length}
 use lib.Seq.{sets}
 use lib.Dec.{leb, eqb}
 use borrow.Author.Tests.{lt-leb, le-leb, ne-eqb, eq-eqb}
-use Rattle.lists.specs.Below.{pick}
 use Rattle.lists.proofs.Logic.{pick-true, pick-false, both}
 use Rattle.lists.proofs.Tables.{table-long}
 use Rattle.events.specs.declared.Event.{Event}
@@ -16,7 +14,6 @@ use Rattle.numerals.specs.Hex.{isHex, hexBytes, pairAt}
 use Rattle.lines.specs.declared.Verb.{Verb}
 use Rattle.lines.specs.declared.Shape.{Shape}
 use Rattle.lines.specs.declared.Arguments.{Arguments}
-use Rattle.lines.specs.declared.Line.{Line}
 use Rattle.lines.specs.declared.Line.the-variants.{Said, Unreadable}
 use Rattle.lines.specs.Fields.{fieldCount, field}
 use Rattle.lines.specs.Grammar.{longestLine, named, verbOf, shapeOf, eventOf, argumentsOf, lineVerb, lineShape, hexField, isReadable, payloadOf, lineOf}

@@ -1,7 +1,7 @@
 -- What each rule leaves alone, whatever it decides.
 use Prim.Native.Nat.{ℕ}
 use mathlib.Core.Path.{_≡_, refl, ap, _∙_}
-use mathlib.Core.Bool.{Bool, true, false}
+use mathlib.Core.Bool.{Bool}
 use Rattle.lists.proofs.Logic.{decided}
 use Rattle.geometry.specs.Geometry.{pageOf}
 use Rattle.memory.specs.declared.Source.{Source}
@@ -15,29 +15,24 @@ use Rattle.events.specs.declared.Answer.the-variants as answer
 use Rattle.release.proofs.Releases.{jump-own, jump-away}
 use Rattle.rules.specs.Plan.{nothing, keep, same, Plan, guard}
 use Rattle.rules.specs.Tests.{Access, ownCode}
+use Rattle.rules.proofs.ByRule.{checked}
 use Rattle.rules.specs.Decide.{released, registered, registerRule, unregisterRule, entered, callEntry, callRule, returnRule, jumpLegacy, jumpSecure, readRule, writeRule, extendRule, pcrRule, byMode}
 
 -- the buffer
-pub guard-nothing : (t : Bool) (r : ℕ) (f : Face) (p : Plan) → p .fetch ≡ nothing → guard t r f p .fetch ≡ nothing
-unfolding guard
-guard-nothing true r f p e = e
-guard-nothing false r f p e = refl
+guard-nothing : (t : Bool) (r : ℕ) (f : Face) (p : Plan) → p .fetch ≡ nothing → guard t r f p .fetch ≡ nothing
+guard-nothing t r f p e = checked (λ x. x .fetch ≡ nothing) t r f p refl (λ _. e)
 
 -- face and µPCRs
 pub record Leaves (p : Plan) (f : Face) : Type 0 where
   pub next : p .next ≡ f
   pub seal : p .seal ≡ same
 
-pub guard-leaves : (t : Bool) (r : ℕ) (f : Face) (p : Plan) → Leaves p f → Leaves (guard t r f p) f
-unfolding guard
-guard-leaves true r f p e = e
-guard-leaves false r f p e = record { next = refl; seal = refl }
+guard-leaves : (t : Bool) (r : ℕ) (f : Face) (p : Plan) → Leaves p f → Leaves (guard t r f p) f
+guard-leaves t r f p e = checked (λ x. Leaves x f) t r f p (record { next = refl; seal = refl }) (λ _. e)
 
 -- memory
-pub guard-keep : (t : Bool) (r : ℕ) (f : Face) (p : Plan) → p .store ≡ keep → guard t r f p .store ≡ keep
-unfolding guard
-guard-keep true r f p e = e
-guard-keep false r f p e = refl
+guard-keep : (t : Bool) (r : ℕ) (f : Face) (p : Plan) → p .store ≡ keep → guard t r f p .store ≡ keep
+guard-keep t r f p e = checked (λ x. x .store ≡ keep) t r f p refl (λ _. e)
 
 released-nothing : (f : Face) (k : ℕ) (a : Answer) → released f k a .fetch ≡ nothing
 unfolding released

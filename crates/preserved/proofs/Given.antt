@@ -6,15 +6,14 @@ use mathlib.Core.Bool.{true, false}
 use lib.ListN.{length}
 use lib.Seq.{getD-set-same, getD-set-other}
 use Rattle.lists.proofs.Tables.{table-at}
-use Rattle.lists.proofs.All.{all-at}
 use Rattle.lists.proofs.Logic.{pick-true, pick-false}
 use Rattle.geometry.specs.Geometry.{mostPages}
 use Rattle.fields.specs.declared.Fields.{Fields}
 use Rattle.fields.specs.Pages.{hasPage}
 use Rattle.state.specs.declared.Card.{Card}
 use Rattle.state.specs.Zero.{noCard}
-use Rattle.state.specs.Face.{Face, cardAt, ownerAt, isOpen}
-use Rattle.rules.specs.Tests.{openIfNamed, allOpen, givenAt, given, withCard}
+use Rattle.state.specs.Face.{Face, cardAt, ownerAt}
+use Rattle.rules.specs.Tests.{givenAt, given, withCard}
 
 module _ (f : Face) (k : ℕ) (card : Card) (x : Fields) (v : ℕ) where
   pub card-there : k < length (f .cards) → cardAt (withCard f k card x v) k ≡ card
@@ -34,8 +33,3 @@ module _ (f : Face) (k : ℕ) (card : Card) (x : Fields) (v : ℕ) where
 
   pub owner-else : (p : ℕ) → p < mostPages → hasPage x p ≡ false → ownerAt (withCard f k card x v) p ≡ ownerAt f p
   owner-else p l h = owner-by p l ∙ pick-false (hasPage x p) v (ownerAt f p) h
-
--- every page that open fields name is open
-pub open-named : (f : Face) (x : Fields) → allOpen f x ≡ true → (p : ℕ) → p < mostPages → hasPage x p ≡ true → isOpen f p ≡ true
-unfolding allOpen
-open-named f x h p l t = let a = all-at (openIfNamed f x) mostPages h p l in rw t at a

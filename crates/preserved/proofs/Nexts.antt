@@ -28,9 +28,9 @@ use Rattle.wellformed.specs.WellFormed.{cardRight, holdsAt, outputAt, outRight,
 use Rattle.wellformed.proofs.Facts.{Right, card-used, card-free, zero-holds, held-under, held-sole, open-under}
 use Rattle.wellformed.proofs.Runs.{secure-of, out-of-none, out-of-range}
 use Rattle.wellformed.proofs.Zeros.{zero-card-right, zero-card}
-use Rattle.rules.proofs.Facts.{byEq}
+use Rattle.rules.proofs.Facts.{byEq, open-named}
 use Rattle.rules.specs.Tests.{allOpen, unlooked, keptAs, withCard, withMode}
-use Rattle.preserved.proofs.Given.{card-there, card-else, owner-there, owner-else, open-named}
+use Rattle.preserved.proofs.Given.{card-there, card-else, owner-there, owner-else}
 
 -- another mode and record: all else is as it was
 pub right-mode : (f : Face) → Right f → (m : Mode) (x : Running) → modeRight (withMode f m x) m ≡ true → Right (withMode f m x)
@@ -73,8 +73,12 @@ module _ (f : Face) (r : Right f) where
     else = card-else f k new x (k + 1)
 
     -- a page that is not open is not named
-    unnamed : (p : ℕ) → isOpen f p ≡ false → hasPage x p ≡ false
-    unnamed p h = decided (hasPage x p) (λ t. absurd (false≢true (sym h ∙ named-open x rules opened p t))) (λ t. t)
+    unnamed : (p : ℕ) → (isOpen f p ≡ true → ⊥) → hasPage x p ≡ false
+    unnamed p h = decided (hasPage x p) (λ t. absurd (h (named-open x rules opened p t))) (λ t. t)
+
+    -- and what lies from P−M up is not open
+    unnamed-above : (p : ℕ) → topOf f ≤ p → hasPage x p ≡ false
+    unnamed-above p a = unnamed p (λ t. omega (arith, open-under f r p t))
 
     card-reg : (j : ℕ) → j < slotCount → cardRight (cardAt next j) (topOf f) ≡ true
     card-reg j l =
@@ -90,8 +94,7 @@ module _ (f : Face) (r : Right f) where
         (λ q. let t : holdsAt f p j ≡ true = rw (else j q) at h in
         let u = held-under f r p j l t in
         let o = r .held p j l t in
-        let n : hasPage x p ≡ false = decided (hasPage x p) (λ g. absurd (omega (arith, o, eqb-true (ownerAt f p) 0 (and-r (ltb p (f .pages)) _ (named-open x rules opened p g))))) (λ g. g) in
-        owner-else f k new x (k + 1) p (small p (omega arith)) n ∙ o)
+        owner-else f k new x (k + 1) p (small p (omega arith)) (unnamed p (λ g. omega (arith, o, eqb-true (ownerAt f p) 0 (and-r (ltb p (f .pages)) _ g)))) ∙ o)
 
     free-reg : (p : ℕ) → p < topOf f → ((j : ℕ) → j < slotCount → holdsAt next p j ≡ false) → ownerAt next p ≡ 0
     free-reg p l h =
@@ -101,16 +104,6 @@ module _ (f : Face) (r : Right f) where
         (λ q. rw q (zero-holds (cardAt f k) p (card-free (cardAt f k) (topOf f) (r .cards k below) spare)))
         (λ q. rw (else j q) at (h j b)))
 
-    own-reg : (p : ℕ) → topOf f ≤ p → p < f .pages → ownerAt next p ≡ 255
-    own-reg p a b =
-        let n : hasPage x p ≡ false = decided (hasPage x p) (λ g. absurd (omega (arith, open-under f r p (named-open x rules opened p g)))) (λ g. g) in
-        owner-else f k new x (k + 1) p (small p b) n ∙ r .own p a b
-
-    past-reg : (p : ℕ) → f .pages ≤ p → p < mostPages → ownerAt next p ≡ 0
-    past-reg p a b =
-        let n : hasPage x p ≡ false = decided (hasPage x p) (λ g. absurd (omega (arith, open-under f r p (named-open x rules opened p g)))) (λ g. g) in
-        owner-else f k new x (k + 1) p b n ∙ r .past p a b
-
     pub right-registered : f .mode ≡ Legacy → Right (withCard f k (record { registered = true; mark = mark; fields = x }) x (k + 1))
     unfolding withCard
     right-registered e =
@@ -119,8 +112,8 @@ module _ (f : Face) (r : Right f) where
           cards = card-reg;
           held = held-reg;
           free = free-reg;
-          own = own-reg;
-          past = past-reg;
+          own = λ p a b. owner-else f k new x (k + 1) p (small p b) (unnamed-above p a) ∙ r .own p a b;
+          past = λ p a b. owner-else f k new x (k + 1) p b (unnamed-above p (omega arith)) ∙ r .past p a b;
           mode = subst (λ (m : Mode). modeRight next m ≡ true) (sym e) (subst (λ (m : Mode). modeRight f m ≡ true) e (r .mode));
         }
 

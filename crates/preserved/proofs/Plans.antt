@@ -1,7 +1,7 @@
 -- The plan of every rule keeps what well-formedness asks: of the face, and of free slots' µPCRs.
 use Prim.Native.Nat.{ℕ, _+_, _<_}
 use native.Mathlib.Omega.{arith}
-use mathlib.Core.Path.{_≡_, refl, sym, ap, subst, _∙_}
+use mathlib.Core.Path.{_≡_, refl, sym, ap, _∙_}
 use mathlib.Core.Logic.{_≢_}
 use mathlib.Core.Bool.{Bool, true, false, false≢true}
 use mathlib.Core.List.{List, []}
@@ -9,33 +9,29 @@ use lib.ListN.{length, set, length-set}
 use lib.Seq.{getD-set-same, getD-set-other}
 use lib.Dec.{ltb}
 use borrow.Author.Tests.{ltb-true, eqb-true}
-use Rattle.lists.specs.Below.{pick}
 use Rattle.lists.proofs.First.{first-at}
-use Rattle.lists.proofs.Logic.{and-l, and-r}
-use Rattle.geometry.specs.Geometry.{slotCount, pageOf}
-use Rattle.memory.specs.declared.Source.{Source}
+use Rattle.lists.proofs.Logic.{and-l}
+use Rattle.geometry.specs.Geometry.{slotCount}
 use Rattle.sha1.specs.declared.Digest.{Digest}
 use Rattle.fields.specs.Rules.{keepsRules}
 use Rattle.manifest.specs.declared.Reading.{Reading}
 use Rattle.state.specs.declared.Card.{Card}
-use Rattle.state.specs.declared.Mode.{Mode}
-use Rattle.state.specs.declared.Mode.the-variants.{Legacy, Secure}
+use Rattle.state.specs.declared.Mode.the-variants.{Legacy}
 use Rattle.state.specs.Zero.{zeroCard}
 use Rattle.state.specs.Face.{Face, cardAt}
-use Rattle.wellformed.specs.WellFormed.{pcrsZero, pcrsRight, modeRight}
+use Rattle.wellformed.specs.WellFormed.{pcrsZero, pcrsRight}
 use Rattle.wellformed.proofs.Facts.{Right}
-use Rattle.wellformed.proofs.Runs.{Runs, secure-hold}
 use Rattle.wellformed.proofs.States.{pcrs-free, of-pcrs}
 use Rattle.wellformed.proofs.Zeros.{zero-pcrs}
 use Rattle.events.specs.declared.Event.{Event}
-use Rattle.events.specs.declared.Event.the-variants.{Register, Unregister, Call, Return, Jump, Read, Write, DeviceRead, DeviceWrite, Extend, PcrRead}
 use Rattle.events.specs.declared.Answer.{Answer}
 use Rattle.events.specs.declared.Answer.the-variants as answer
-use Rattle.rules.specs.Plan.{Fetch, nothing, Store, keep, Seal, same, clear, extend, measure, Plan, refuse, guard, still}
-use Rattle.rules.specs.Tests.{Access, execute, mayReach, entryOf, underMark, callableAt, slotFor, freeAt, freeSlot, withCard}
-use Rattle.rules.specs.Decide.{released, registered, registerRule, unregisterRule, entered, callEntry, callRule, returnRule, jumpLegacy, jumpSecure, readRule, writeRule, extendRule, pcrRule, legacyOnly, secureOnly, byMode, ruleIn, decide}
+use Rattle.rules.specs.Plan.{Fetch, Store, Seal, same, clear, extend, measure, Plan, refuse, guard, still}
+use Rattle.rules.specs.Tests.{entryOf, slotFor, freeAt, freeSlot, withCard}
+use Rattle.rules.specs.Decide.{released, registered, registerRule, unregisterRule, entered, callEntry, callRule, returnRule, jumpLegacy, readRule, writeRule, extendRule, pcrRule, decide}
 use Rattle.rules.specs.Act.{zeroPcrs, sealed}
-use Rattle.rules.proofs.Facts.{byEq, not-is}
+use Rattle.rules.proofs.Facts.{byEq, not-is, callable, running}
+use Rattle.rules.proofs.ByRule.{checked, ByRule, by-rule}
 use Rattle.preserved.proofs.Given.{card-there, card-else}
 use Rattle.preserved.proofs.Nexts.{right-registered, right-freed, right-left, right-entered}
 
@@ -90,9 +86,7 @@ module _ (f : Face) (r : Right f) (eight : length (f .cards) ≡ slotCount) wher
   refuse-good n = record { right = r; pages = refl; kept = refl; long = refl; seals = λ k. refl; cards = λ j u v. refl }
 
   guard-good : (t : Bool) (n : ℕ) (p : Plan) → (t ≡ true → Good f p) → Good f (guard t n f p)
-  unfolding guard
-  guard-good true n p h = h refl
-  guard-good false n p h = refuse-good n
+  guard-good t n p h = checked (Good f) t n f p (refuse-good n) h
 
   still-good : (x : Fetch) (y : Store) (z : Seal) (a : Answer) → Fits f f z → Good f (still f x y z a)
   still-good x y z a h = record { right = r; pages = refl; kept = refl; long = refl; seals = h; cards = λ j u v. refl }
@@ -126,87 +120,33 @@ module _ (f : Face) (r : Right f) (eight : length (f .cards) ≡ slotCount) wher
         cards = λ j u v. card-else f k zeroCard (cardAt f k .fields) 0 j (λ q. false≢true (sym (ap (λ (y : Card). y .registered) (card-there f k zeroCard (cardAt f k .fields) 0 (omega arith))) ∙ rw q at v));
       }
 
-  unregister-good : (mark k : ℕ) → Good f (unregisterRule f mark k)
-  unfolding unregisterRule
-  unregister-good mark k = guard-good _ 8 _ λ t. released-good k answer.Done (ltb-true k slotCount (and-l (ltb k slotCount) _ t))
-
   call-good : (mark a i o : ℕ) → Good f (callRule f mark a i o)
-  unfolding callRule callEntry entered slotFor
+  unfolding callRule callEntry entered
   call-good mark a i o =
       guard-good _ 8 _ λ s. guard-good _ 4 _ λ b. guard-good _ 4 _ λ c. guard-good _ 5 _ λ d. guard-good _ 5 _ λ g.
       let k = slotFor f mark a in
-      let l : k < slotCount = ltb-true k slotCount s in
-      let t = first-at (callableAt f mark a) slotCount l in
-      let u = and-l (cardAt f k .registered) _ (and-l (underMark (cardAt f k) mark) _ t) in
-      let v = ltb-true _ _ (and-r (underMark (cardAt f k) mark) _ t) in
-      record { right = right-entered f r k (entryOf (cardAt f k .fields) a) o l u v c g; pages = refl; kept = refl; long = refl; seals = λ j. refl; cards = λ j u v. refl }
+      let y = callable f mark a s in
+      record { right = right-entered f r k (entryOf (cardAt f k .fields) a) o (y .below) (y .registered) (y .used) c g; pages = refl; kept = refl; long = refl; seals = λ j. refl; cards = λ j u v. refl }
 
-  return-good : (k : ℕ) → Good f (returnRule f k)
-  unfolding returnRule
-  return-good k = record { right = right-left f r; pages = refl; kept = refl; long = refl; seals = λ j. refl; cards = λ j u v. refl }
-
-  jump-good : (a : ℕ) → Good f (jumpLegacy f a)
-  unfolding jumpLegacy
-  jump-good a = guard-good _ 4 _ λ b. guard-good _ 5 _ λ c. still-good _ _ same _ (λ j. refl)
-
-  pick-good : (t : Bool) (p q : Plan) → Good f p → Good f q → Good f (pick t p q)
-  pick-good true p q h g = h
-  pick-good false p q h g = g
-
-  stay-good : (k a : ℕ) → k < slotCount → Good f (jumpSecure f k a)
-  unfolding jumpSecure
-  stay-good k a l =
-      pick-good (mayReach (Secure k) f execute (pageOf a)) (still f nothing keep same answer.Done) (released f k (answer.Terminated k))
-      (still-good nothing keep same answer.Done (λ j. refl))
-      (released-good k (answer.Terminated k) l)
-
-  read-good : (m : Mode) (access : Access) (room a n : ℕ) → Good f (readRule m f access room a n)
-  unfolding readRule
-  read-good m access room a n = guard-good _ 4 _ λ b. guard-good _ 5 _ λ c. guard-good _ 9 _ λ d. still-good _ _ same _ (λ j. refl)
-
-  write-good : (m : Mode) (access : Access) (a n : ℕ) → Good f (writeRule m f access a n)
-  unfolding writeRule
-  write-good m access a n = guard-good _ 4 _ λ b. guard-good _ 5 _ λ c. still-good _ _ same _ (λ j. refl)
-
-  extend-good : (k size i : ℕ) (source : Source) (a n : ℕ) → cardAt f k .registered ≡ true → Good f (extendRule f k size i source a n)
-  unfolding extendRule
-  extend-good k size i source a n u =
-      guard-good _ 10 _ λ b. guard-good _ 4 _ λ c. guard-good _ 5 _ λ d. still-good _ _ (extend k i source a n) _ (u, λ j q. refl)
-
-  pcr-good : (k room i : ℕ) → Good f (pcrRule f k room i)
-  unfolding pcrRule
-  pcr-good k room i = guard-good _ 10 _ λ b. guard-good _ 9 _ λ c. still-good _ _ same _ (λ j. refl)
-
-  -- the slot that runs
-  running : (m : Mode) → f .mode ≡ m → (k : ℕ) → m ≡ Secure k → Runs f k (f .running)
-  running m e k q = secure-hold f k (subst (λ (x : Mode). modeRight f x ≡ true) (e ∙ q) (r .mode))
-
-  in-legacy : (m : Mode) (p : Plan) → (m ≡ Legacy → Good f p) → Good f (legacyOnly m f p)
-  in-legacy Legacy p h = h refl
-  in-legacy (Secure k) p h = refuse-good 2
-
-  in-secure : (m : Mode) (p : ℕ → Plan) → ((k : ℕ) → m ≡ Secure k → Good f (p k)) → Good f (secureOnly m f p)
-  in-secure Legacy p h = refuse-good 2
-  in-secure (Secure k) p h = h k refl
-
-  in-either : (m : Mode) (p : Plan) (q : ℕ → Plan) → Good f p → ((k : ℕ) → m ≡ Secure k → Good f (q k)) → Good f (byMode m p q)
-  in-either Legacy p q h g = h
-  in-either (Secure k) p q h g = g k refl
-
-  rule-good : (m : Mode) → f .mode ≡ m → (room size : ℕ) (x : Reading) → (x .refusal ≡ 0 → keepsRules (x .fields) ≡ true) → (e : Event) → Good f (ruleIn m f room size x e)
-  unfolding ruleIn
-  rule-good m e room size x rules (Register mark) = in-legacy m _ (λ q. register-good mark x rules (e ∙ q))
-  rule-good m e room size x rules (Unregister mark k) = in-legacy m _ (λ q. unregister-good mark k)
-  rule-good m e room size x rules (Call mark a i o) = in-legacy m _ (λ q. call-good mark a i o)
-  rule-good m e room size x rules Return = in-secure m _ (λ k q. return-good k)
-  rule-good m e room size x rules (Jump a) = in-either m _ _ (jump-good a) (λ k q. stay-good k a (running m e k q .below))
-  rule-good m e room size x rules (Read a n) = read-good m _ room a n
-  rule-good m e room size x rules (Write a) = write-good m _ a size
-  rule-good m e room size x rules (DeviceRead a n) = read-good m _ room a n
-  rule-good m e room size x rules (DeviceWrite a) = write-good m _ a size
-  rule-good m e room size x rules (Extend i source a n) = in-secure m _ (λ k q. extend-good k size i source a n (running m e k q .registered))
-  rule-good m e room size x rules (PcrRead i) = in-secure m _ (λ k q. pcr-good k room i)
+  by-rules : (room size : ℕ) (x : Reading) → (x .refusal ≡ 0 → keepsRules (x .fields) ≡ true) → ByRule f room size x (λ e m p. Good f p)
+  unfolding unregisterRule returnRule jumpLegacy readRule writeRule extendRule pcrRule
+  by-rules room size x rules =
+      record {
+        registers = λ mark q. register-good mark x rules q;
+        unregisters = λ mark k q. guard-good _ 8 _ λ t. released-good k answer.Done (ltb-true k slotCount (and-l (ltb k slotCount) _ t));
+        calls = λ mark a i o q. call-good mark a i o;
+        returns = λ k q. record { right = right-left f r; pages = refl; kept = refl; long = refl; seals = λ j. refl; cards = λ j u v. refl };
+        jumps = λ a q. guard-good _ 4 _ λ b. guard-good _ 5 _ λ c. still-good _ _ same _ (λ j. refl);
+        stays = λ a k q. still-good _ _ same _ (λ j. refl);
+        leaves = λ a k q. released-good k (answer.Terminated k) (running f r k q .below);
+        reads = λ a n. guard-good _ 4 _ λ b. guard-good _ 5 _ λ c. guard-good _ 9 _ λ d. still-good _ _ same _ (λ j. refl);
+        writes = λ a. guard-good _ 4 _ λ b. guard-good _ 5 _ λ c. still-good _ _ same _ (λ j. refl);
+        device-reads = λ a n. guard-good _ 4 _ λ b. guard-good _ 5 _ λ c. guard-good _ 9 _ λ d. still-good _ _ same _ (λ j. refl);
+        device-writes = λ a. guard-good _ 4 _ λ b. guard-good _ 5 _ λ c. still-good _ _ same _ (λ j. refl);
+        extends = λ i source a n k q. guard-good _ 10 _ λ b. guard-good _ 4 _ λ c. guard-good _ 5 _ λ d.
+            still-good _ _ (extend k i source a n) _ (running f r k q .registered, λ j q. refl);
+        pcr-reads = λ i k q. guard-good _ 10 _ λ b. guard-good _ 9 _ λ c. still-good _ _ same _ (λ j. refl);
+      }
 
   pub decide-good : (ok : Bool) (room size : ℕ) (x : Reading) → (x .refusal ≡ 0 → keepsRules (x .fields) ≡ true) → (e : Event) → Good f (decide f ok room size x e)
-  unfolding decide
-  decide-good ok room size x rules e = guard-good ok 1 _ λ h. rule-good (f .mode) refl room size x rules e
+  decide-good ok room size x rules = by-rule f room size x (λ e m p. Good f p) (λ e n a b. refuse-good n) ok (λ t. by-rules room size x rules)

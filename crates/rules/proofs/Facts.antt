@@ -1,31 +1,34 @@
 -- What the rules' tests tell, and what the owner table keeps.
-use Prim.Native.Nat.{ℕ, _+_, _%_, _≤_, _<_}
+use Prim.Native.Nat.{ℕ, _+_, _≤_, _<_}
 use native.Mathlib.Omega.{arith}
 use native.Mathlib.Decide.{ℕ-discrete}
-use mathlib.Core.Path.{_≡_, refl, sym, ap, _∙_}
-use mathlib.Core.Logic.{_≢_, _⊎_, ⊎-elim}
+use mathlib.Core.Path.{_≡_, refl, sym, ap, subst, _∙_}
+use mathlib.Core.Logic.{_≢_, ⊎-elim}
 use mathlib.Core.Bool.{Bool, true, false, not, false≢true}
 use mathlib.Core.List.{List}
 use lib.ListN.{length, getD, List·getD-eq-default}
-use lib.Dec.{leb}
-use borrow.Author.Tests.{leb-true, eqb-true}
-use Rattle.lists.specs.Below.{table}
+use lib.Dec.{ltb}
+use borrow.Author.Tests.{ltb-true, eqb-true}
 use Rattle.lists.proofs.Logic.{and-l, and-r, decided, lt-or-ge}
+use Rattle.lists.proofs.All.{all-at}
 use Rattle.lists.proofs.Any.{any-find}
+use Rattle.lists.proofs.First.{first-at}
 use Rattle.lists.proofs.Tables.{table-long, table-at}
-use Rattle.geometry.specs.Geometry.{pageSize, mostPages, slotCount, halfPage, pageOf, isRange}
+use Rattle.geometry.specs.Geometry.{mostPages, slotCount, halfPage}
 use Rattle.fields.specs.declared.Fields.{Fields}
 use Rattle.fields.specs.Fields.{entryAt}
 use Rattle.fields.specs.Pages.{pagesOf, hasPage, paramOf}
 use Rattle.fields.proofs.Facts.{kept}
 use Rattle.fields.proofs.PageLaws.{listed, page-listed, param-page}
 use Rattle.state.specs.declared.Card.{Card}
+use Rattle.state.specs.declared.Mode.{Mode}
+use Rattle.state.specs.declared.Mode.the-variants.{Legacy, Secure}
 use Rattle.state.specs.Zero.{noCard}
-use Rattle.state.specs.Face.{Face, cardAt, ownerAt}
-use Rattle.wellformed.specs.WellFormed.{outputAt}
+use Rattle.state.specs.Face.{Face, cardAt, ownerAt, isOpen}
+use Rattle.wellformed.specs.WellFormed.{outputAt, modeRight}
 use Rattle.wellformed.proofs.Facts.{Right, card-rules, owner-holds}
-use Rattle.wellformed.proofs.Runs.{Runs}
-use Rattle.rules.specs.Tests.{givenAt, given}
+use Rattle.wellformed.proofs.Runs.{Runs, secure-hold}
+use Rattle.rules.specs.Tests.{device, mayReach, entryOf, underMark, callableAt, slotFor, openIfNamed, allOpen, givenAt, given}
 
 -- ---- cases
 
@@ -49,19 +52,6 @@ card-below f k e =
     (λ (l : length (f .cards) ≤ k). let q : cardAt f k ≡ noCard = List·getD-eq-default (f .cards) noCard l in
     absurd (false≢true (sym (ap (λ (x : Card). x .registered) q) ∙ e)))
     (lt-or-ge k (length (f .cards)))
-
--- ---- ranges
-
--- a range lies in one page
-pub range-page : (p a n i : ℕ) → isRange p a n ≡ true → a ≤ i → i < a + n → pageOf i ≡ pageOf a
-unfolding isRange
-range-page p a n i e h k =
-    let t = and-r (leb n pageSize) _ (and-r (leb 1 n) _ e) in
-    let s = leb-true (a % pageSize + n) pageSize (and-l (leb (a % pageSize + n) pageSize) _ t) in
-    omega (arith, s)
-
-pub owner-there : (f : Face) (a n i : ℕ) → isRange (f .pages) a n ≡ true → a ≤ i → i < a + n → ownerAt f (pageOf i) ≡ ownerAt f (pageOf a)
-owner-there f a n i e h k = ap (ownerAt f) (range-page (f .pages) a n i e h k)
 
 -- ---- the owner table
 
@@ -92,7 +82,44 @@ module _ (owner : List ℕ) (x : Fields) (v : ℕ) where
       (λ o. absurd (z (sym o ∙ owner-past owner p s l)), λ o. absurd (z (sym o ∙ owner-past (given owner x v) p given-long l))))
       (lt-or-ge p mostPages)
 
+-- ---- what the tests say of slots and of pages
+
+-- the slot of a call, and its entry
+pub record Callable (f : Face) (mark a k : ℕ) : Type 0 where
+  pub below : k < slotCount
+  pub registered : cardAt f k .registered ≡ true
+  pub mark-is : cardAt f k .mark ≡ mark
+  pub used : entryOf (cardAt f k .fields) a < cardAt f k .fields .e
+
+pub callable : (f : Face) (mark a : ℕ) → ltb (slotFor f mark a) slotCount ≡ true → Callable f mark a (slotFor f mark a)
+unfolding slotFor
+callable f mark a h =
+    let k = slotFor f mark a in
+    let l : k < slotCount = ltb-true k slotCount h in
+    let t = first-at (callableAt f mark a) slotCount l in
+    let u = and-l (underMark (cardAt f k) mark) _ t in
+    record {
+      below = l;
+      registered = and-l (cardAt f k .registered) _ u;
+      mark-is = eqb-true _ _ (and-r (cardAt f k .registered) _ u);
+      used = ltb-true _ _ (and-r (underMark (cardAt f k) mark) _ t);
+    }
+
+-- what a device may reach is open
+pub device-open : (f : Face) (m : Mode) (p : ℕ) → mayReach m f device p ≡ true → isOpen f p ≡ true
+device-open f Legacy p t = t
+device-open f (Secure k) p t = t
+
+-- every page that open fields name is open
+pub open-named : (f : Face) (x : Fields) → allOpen f x ≡ true → (p : ℕ) → p < mostPages → hasPage x p ≡ true → isOpen f p ≡ true
+unfolding allOpen
+open-named f x h p l t = let a = all-at (openIfNamed f x) mostPages h p l in rw t at a
+
 -- ---- what a well-formed face says of a slot
+
+-- of the one that runs
+pub running : (f : Face) → Right f → (k : ℕ) → f .mode ≡ Secure k → Runs f k (f .running)
+running f r k q = secure-hold f k (subst (λ (m : Mode). modeRight f m ≡ true) q (r .mode))
 
 module _ (f : Face) (r : Right f) (j : ℕ) where
   -- its param page is its own

@@ -1,7 +1,9 @@
+pub mod Ranges
 pub mod Facts
 pub mod Lists
 pub mod States
 pub mod Safe
+pub mod ByRule
 pub mod Rules
 pub mod Effects
 pub mod Isolated

@@ -14,12 +14,13 @@ use Rattle.events.specs.declared.Answer.{Answer}
 use Rattle.events.specs.declared.Answer.the-variants as answer
 use Rattle.events.specs.Answers.{fills}
 use Rattle.rules.specs.Plan.{Fetch, nothing, bytes, pcr, Store, keep, put, move, clean, Seal, same, clear, extend, measure, Plan}
-use Rattle.rules.specs.Decide.{released, registered, outFrom}
+use Rattle.rules.specs.Decide.{registered, outFrom}
 use Rattle.rules.specs.Isolation.{Keeps}
+use Rattle.rules.proofs.Ranges.{Apart}
 
 -- the n places from a on are all outside k's pages, or all in them
 abbrev pub Outside : ℕ → Face → ℕ → ℕ → Type 0
-Outside k f a n = (i : ℕ) → a ≤ i → i < a + n → ownerAt f (pageOf i) ≢ k + 1
+Outside k f a n = Apart (λ p. ownerAt f p ≡ k + 1) a n
 
 abbrev pub Inside : ℕ → Face → ℕ → ℕ → Type 0
 Inside k f a n = (i : ℕ) → a ≤ i → i < a + n → ownerAt f (pageOf i) ≡ k + 1

@@ -1,19 +1,17 @@
 -- Every state that the source's types allow is one of those that isolation speaks of.
 use Prim.Native.Nat.{ℕ, _≤_, _<_}
 use native.Mathlib.Omega.{arith}
-use mathlib.Core.Path.{_≡_, refl, sym, ap, _∙_}
-use mathlib.Core.Logic.{_⊎_, ⊎-elim}
+use mathlib.Core.Logic.{⊎-elim}
 use mathlib.Core.List.{List, []}
 use lib.ListN.{length, getD, List·getD-eq-default}
 use Rattle.lists.proofs.Logic.{lt-or-ge}
 use Rattle.geometry.specs.Geometry.{slotCount, digestSize}
 use Rattle.sha1.specs.declared.Digest.{Digest}
-use Rattle.state.specs.declared.Slot.{Slot}
 use Rattle.state.specs.declared.State.{State}
 use Rattle.state.specs.Zero.{noPcr, noSlot}
 use Rattle.state.specs.Face.{pcrsOf}
 use Rattle.state.proofs.Faces.{pcrs-at}
-use Rattle.state.proofs.Shape.{Each, each-in, DigestShape, SlotShape, StateShape, slot-in}
+use Rattle.state.proofs.Shape.{Each, each-in, DigestShape, StateShape, slot-in}
 use Rattle.rules.specs.Isolation.{Shaped}
 
 pcrs-short : (xs : List Digest) → Each DigestShape xs → (i : ℕ) → length (getD xs i noPcr .bytes) ≤ digestSize

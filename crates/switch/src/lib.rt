@@ -33,15 +33,17 @@ fn entered(slot: usize, out: usize, length: usize) -> Running
     }
 }
 
-// Entering: the lent record becomes that of the call that begins.
-pub fn enter(running: &mut Running, slot: usize, out: usize, length: usize)
+// Entering: the lent record becomes that of the call that begins. Firmware in C calls it too, and `monitor_leave`.
+#[no_mangle]
+pub extern "C" fn monitor_enter(running: &mut Running, slot: usize, out: usize, length: usize)
     ensures { λ _. ⌜ now (running .exit) ≡ enteredRecord slot out length ⌝ }
 {
     *running = entered(slot, out, length);
 }
 
 // Leaving: the caller has the record as it was, and the lent one is zero.
-pub fn leave(running: &mut Running) -> Running
+#[no_mangle]
+pub extern "C" fn monitor_leave(running: &mut Running) -> Running
     ensures { λ r. ⌜ (r ≡ now (running .entry)) × (now (running .exit) ≡ zeroRunning) ⌝ }
 {
     let was = *running;
@@ -62,7 +64,7 @@ pub fn entering(slot: usize, out: usize, length: usize) -> Running
         out: 0,
         length: 0,
     };
-    enter(&mut w, slot, out, length);
+    monitor_enter(&mut w, slot, out, length);
     w
 }
 
@@ -70,16 +72,16 @@ pub fn leaving(r: Running) -> Left
     ensures { λ x. ⌜ x ≡ leftOf r ⌝ }
 {
     let mut w = r;
-    let was = leave(&mut w);
+    let was = monitor_leave(&mut w);
     Left { was: was, rest: w }
 }
 
-// What Call's rule puts into the state's record is what `enter` leaves in the lent one.
+// What Call's rule puts into the state's record is what `monitor_enter` leaves in the lent one.
 pub fn call_enters()
     ensures { λ _. ⌜ CallEnters ⌝ }
 {}
 
-// What Return's rule reads of the state's record and leaves in it is what `leave` hands out and leaves in the lent one.
+// What Return's rule reads of the state's record and leaves in it is what `monitor_leave` hands out and leaves in the lent one.
 pub fn return_leaves()
     ensures { λ _. ⌜ ReturnLeaves ⌝ }
 {}

@@ -22,8 +22,9 @@ use Rattle.state.proofs.Shape.{StateShape, DigestShape, slot-in, each-in}
 use Rattle.state.proofs.Faces.{card-at}
 use Rattle.wellformed.specs.WellFormed.{modeRight, stateRight, wellFormed}
 use Rattle.wellformed.proofs.Facts.{Right, right-of, card-rules, card-free}
-use Rattle.wellformed.proofs.Runs.{Runs, secure-hold, legacy-hold}
+use Rattle.wellformed.proofs.Runs.{Runs, legacy-hold}
 use Rattle.wellformed.proofs.States.{state-face, well-state, well-long}
+use Rattle.rules.proofs.Facts.{running}
 
 module _ (s : State) (h : stateRight s ≡ true) where
   pub right : Right (faceOf s)
@@ -34,7 +35,7 @@ module _ (s : State) (h : stateRight s ≡ true) where
 
   -- in secure mode the mode's slot is registered, and the record is its own
   pub runs-in : (k : ℕ) → s .mode ≡ Secure k → Runs (faceOf s) k (s .running)
-  runs-in k e = secure-hold (faceOf s) k (subst (λ (m : Mode). modeRight (faceOf s) m ≡ true) e (right .mode))
+  runs-in k e = running (faceOf s) right k e
 
   pub mode-below : (k : ℕ) → s .mode ≡ Secure k → k < slotCount
   mode-below k e = runs-in k e .below

@@ -1,5 +1,6 @@
 -- The event that a request names, and the reply that an answer becomes.
 use Prim.Native.Nat.{ℕ}
+use mathlib.Core.List.{List}
 use lib.Dec.{eqb}
 use Rattle.lists.specs.Below.{pick}
 use Rattle.memory.specs.declared.Source.the-variants as source
@@ -70,3 +71,11 @@ unknownNumber = 255
 
 abbrev pub unknownReply : Reply
 unknownReply = reply unknownNumber 0 0
+
+-- a reply, and what stands in the buffer after it
+pub record Answered : Type 0 where
+  pub reply : Reply
+  pub buffer : List ℕ
+
+abbrev pub answered : Reply → List ℕ → Answered
+answered r buffer = record { reply = r; buffer = buffer }

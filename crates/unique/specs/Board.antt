@@ -4,13 +4,11 @@ use Rattle.twin.proofs.shut as twin-shut
 use Rattle.twin.proofs.event_asked as twin-event-asked
 use Rattle.twin.proofs.replied as twin-replied
 use Rattle.twin.proofs.not_asked as twin-not-asked
-use Rattle.host.proofs.monitor_start as host-monitor-start
+use Rattle.start_c.proofs.monitor_start as start-c-monitor-start
 use Rattle.host.proofs.monitor_event as host-monitor-event
-use Rattle.host.proofs.monitor_manifest_read as host-monitor-manifest-read
-use Rattle.host.proofs.monitor_manifest_write as host-monitor-manifest-write
-use Rattle.host.proofs.monitor_device_map as host-monitor-device-map
-use Rattle.host.proofs.monitor_enter as host-monitor-enter
-use Rattle.host.proofs.monitor_leave as host-monitor-leave
+use Rattle.manifest_c.proofs.monitor_manifest_read as manifest-c-monitor-manifest-read
+use Rattle.manifest_c.proofs.monitor_manifest_write as manifest-c-monitor-manifest-write
+use Rattle.devicemap_c.proofs.monitor_device_map as devicemap-c-monitor-device-map
 use Rattle.sha1_c.proofs.sha1_hash as sha1-c-sha1-hash
 use Rattle.wellformed_c.proofs.guddaroox_well_formed as wellformed-c-guddaroox-well-formed
 use borrow.Fn.World.{w₀}
@@ -18,17 +16,11 @@ use borrow.Fn.Read.{r-last}
 use Rattle.unique.specs.One.{Says, OneOutcome, told}
 
 -- A contract over a lent struct is proved by hand, and the toolchain makes no reading of it: its own clause, by the toolchain's rule for a plain fact.
-abbrev pub host-monitor-start-says : Says host-monitor-start.ended
-host-monitor-start-says κs a z e = told (host-monitor-start.clauses (w₀ .𝓤) (w₀ .H) (w₀ .𝓖 .A) (w₀ .𝓜 .mem) (w₀ .𝓡 .run) κs a .ensures tt z e) (r-last _)
+abbrev pub start-c-monitor-start-says : Says start-c-monitor-start.ended
+start-c-monitor-start-says κs a z e = told (start-c-monitor-start.clauses (w₀ .𝓤) (w₀ .H) (w₀ .𝓖 .A) (w₀ .𝓜 .mem) (w₀ .𝓡 .run) κs a .ensures tt z e) (r-last _)
 
 abbrev pub host-monitor-event-says : Says host-monitor-event.ended
 host-monitor-event-says κs a z e = told (host-monitor-event.clauses (w₀ .𝓤) (w₀ .H) (w₀ .𝓖 .A) (w₀ .𝓜 .mem) (w₀ .𝓡 .run) κs a .ensures tt z e) (r-last _)
-
-abbrev pub host-monitor-enter-says : Says host-monitor-enter.ended
-host-monitor-enter-says κs a z e = told (host-monitor-enter.clauses (w₀ .𝓤) (w₀ .H) (w₀ .𝓖 .A) (w₀ .𝓜 .mem) (w₀ .𝓡 .run) κs a .ensures tt z e) (r-last _)
-
-abbrev pub host-monitor-leave-says : Says host-monitor-leave.ended
-host-monitor-leave-says κs a z e = told (host-monitor-leave.clauses (w₀ .𝓤) (w₀ .H) (w₀ .𝓖 .A) (w₀ .𝓜 .mem) (w₀ .𝓡 .run) κs a .ensures tt z e) (r-last _)
 
 pub record Board : Type 0 where
   pub twin-opened-one : OneOutcome twin-opened.ended twin-opened.Reads.Learnt
@@ -36,12 +28,10 @@ pub record Board : Type 0 where
   pub twin-event-asked-one : OneOutcome twin-event-asked.ended twin-event-asked.Reads.Learnt
   pub twin-replied-one : OneOutcome twin-replied.ended twin-replied.Reads.Learnt
   pub twin-not-asked-one : OneOutcome twin-not-asked.ended twin-not-asked.Reads.Learnt
-  pub host-monitor-start-one : OneOutcome host-monitor-start.ended host-monitor-start-says
+  pub start-c-monitor-start-one : OneOutcome start-c-monitor-start.ended start-c-monitor-start-says
   pub host-monitor-event-one : OneOutcome host-monitor-event.ended host-monitor-event-says
-  pub host-monitor-manifest-read-one : OneOutcome host-monitor-manifest-read.ended host-monitor-manifest-read.Reads.Learnt
-  pub host-monitor-manifest-write-one : OneOutcome host-monitor-manifest-write.ended host-monitor-manifest-write.Reads.Learnt
-  pub host-monitor-device-map-one : OneOutcome host-monitor-device-map.ended host-monitor-device-map.Reads.Learnt
-  pub host-monitor-enter-one : OneOutcome host-monitor-enter.ended host-monitor-enter-says
-  pub host-monitor-leave-one : OneOutcome host-monitor-leave.ended host-monitor-leave-says
+  pub manifest-c-monitor-manifest-read-one : OneOutcome manifest-c-monitor-manifest-read.ended manifest-c-monitor-manifest-read.Reads.Learnt
+  pub manifest-c-monitor-manifest-write-one : OneOutcome manifest-c-monitor-manifest-write.ended manifest-c-monitor-manifest-write.Reads.Learnt
+  pub devicemap-c-monitor-device-map-one : OneOutcome devicemap-c-monitor-device-map.ended devicemap-c-monitor-device-map.Reads.Learnt
   pub sha1-c-sha1-hash-one : OneOutcome sha1-c-sha1-hash.ended sha1-c-sha1-hash.Reads.Learnt
   pub wellformed-c-guddaroox-well-formed-one : OneOutcome wellformed-c-guddaroox-well-formed.ended wellformed-c-guddaroox-well-formed.Reads.Learnt

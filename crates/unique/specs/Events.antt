@@ -1,7 +1,7 @@
 -- One outcome for each input: the eleven events and the running record. Exception: an event's own function and `decided` say by a change what becomes of
 -- the state; answer, state after the change, memory and buffer are one, and not the change that comes to them.
-use Rattle.switch.proofs.enter as switch-enter
-use Rattle.switch.proofs.leave as switch-leave
+use Rattle.switch.proofs.monitor_enter as switch-monitor-enter
+use Rattle.switch.proofs.monitor_leave as switch-monitor-leave
 use Rattle.switch.proofs.entering as switch-entering
 use Rattle.switch.proofs.leaving as switch-leaving
 use Rattle.touch.proofs.pages.is_open as touch-is-open
@@ -49,15 +49,15 @@ use Rattle.monitor.specs.Allowed.{outOf}
 use Rattle.unique.specs.One.{Says, OneOutcome, told, OneView}
 
 -- A contract over a lent struct is proved by hand, and the toolchain makes no reading of it: its own clause, by the toolchain's rule for a plain fact.
-abbrev pub switch-enter-says : Says switch-enter.ended
-switch-enter-says κs a z e = told (switch-enter.clauses (w₀ .𝓤) (w₀ .H) (w₀ .𝓖 .A) (w₀ .𝓜 .mem) (w₀ .𝓡 .run) κs a .ensures tt z e) (r-last _)
+abbrev pub switch-monitor-enter-says : Says switch-monitor-enter.ended
+switch-monitor-enter-says κs a z e = told (switch-monitor-enter.clauses (w₀ .𝓤) (w₀ .H) (w₀ .𝓖 .A) (w₀ .𝓜 .mem) (w₀ .𝓡 .run) κs a .ensures tt z e) (r-last _)
 
-abbrev pub switch-leave-says : Says switch-leave.ended
-switch-leave-says κs a z e = told (switch-leave.clauses (w₀ .𝓤) (w₀ .H) (w₀ .𝓖 .A) (w₀ .𝓜 .mem) (w₀ .𝓡 .run) κs a .ensures tt z e) (r-last _)
+abbrev pub switch-monitor-leave-says : Says switch-monitor-leave.ended
+switch-monitor-leave-says κs a z e = told (switch-monitor-leave.clauses (w₀ .𝓤) (w₀ .H) (w₀ .𝓖 .A) (w₀ .𝓜 .mem) (w₀ .𝓡 .run) κs a .ensures tt z e) (r-last _)
 
 pub record Events : Type 0 where
-  pub switch-enter-one : OneOutcome switch-enter.ended switch-enter-says
-  pub switch-leave-one : OneOutcome switch-leave.ended switch-leave-says
+  pub switch-monitor-enter-one : OneOutcome switch-monitor-enter.ended switch-monitor-enter-says
+  pub switch-monitor-leave-one : OneOutcome switch-monitor-leave.ended switch-monitor-leave-says
   pub switch-entering-one : OneOutcome switch-entering.ended switch-entering.Reads.Learnt
   pub switch-leaving-one : OneOutcome switch-leaving.ended switch-leaving.Reads.Learnt
   pub touch-is-open-one : OneOutcome touch-is-open.ended touch-is-open.Reads.Learnt

@@ -1,4 +1,4 @@
--- `switch::entering` meets its contract: a walk of its MIR, by hand. A record in a local is lent to `enter` for a lifetime that is made for the call, and comes back at the value that `enter` ensures.
+-- `switch::entering` meets its contract: a walk of its MIR, by hand. A record in a local is lent to `monitor_enter` for a lifetime that is made for the call, and comes back at the value that `enter` ensures.
 -- Its parameters and its result are plain, so its callers are covered by the borrow checker. Assumes nothing.
 use mathlib.Core.Path.{_≡_, refl, sym, ap, subst}
 use Prim.Native.Nat.{ℕ, _<_, _^_}
@@ -46,10 +46,10 @@ use Rattle.state.specs.Zero.{zeroRunning}
 use Rattle.switch.specs.Record.{enteredRecord}
 use Rattle.state.proofs.Running as T
 use Rattle.state.proofs.Running.Laws as T′
-use Rattle.switch.proofs.enter as g
-use Rattle.switch.proofs.enter.Symbol as g-def
-use Rattle.switch.proofs.enter.Symbol.{name as #g}
-use Rattle.switch.proofs.enter.Met as g-thm
+use Rattle.switch.proofs.monitor_enter as g
+use Rattle.switch.proofs.monitor_enter.Symbol as g-def
+use Rattle.switch.proofs.monitor_enter.Symbol.{name as #g}
+use Rattle.switch.proofs.monitor_enter.Met as g-thm
 use Rattle.switch.proofs.entering.Key.{name as #f}
 use Rattle.switch.proofs.entering as f
 use Rattle.switch.proofs.entering.Statement as stated
@@ -166,4 +166,4 @@ entering-spec 𝓤 H 𝓜 𝓖 𝓡 =
     entered 𝓤 H (tripleOf 𝓤 H (𝓖 .A) f.signature (f.spec 𝓤 H (𝓖 .A) (𝓜 .mem) (𝓡 .run)))
     (tables 𝓤 H 𝓜 𝓡 code.env .C) (tables 𝓤 H 𝓜 𝓡 code.env .Λ) #f code.function (code.unfolded 𝓤 H 𝓜 𝓡)
     (meets 𝓤 H (𝓖 .A) (givenOf 𝓤 H 𝓜 𝓖) (𝓜 .mem) (𝓡 .run) (tablesOf 𝓤 H 𝓜 (tables 𝓤 H 𝓜 𝓡 code.env))
-    (cited 𝓤 H (G 𝓤 H (𝓖 .A) (𝓜 .mem) (𝓡 .run)) 𝓜 𝓡 code.env #g g-def.routine code.calls-switch·enter (g-thm.met 𝓤 H 𝓜 𝓖 𝓡)))
+    (cited 𝓤 H (G 𝓤 H (𝓖 .A) (𝓜 .mem) (𝓡 .run)) 𝓜 𝓡 code.env #g g-def.routine code.calls-switch·monitor-enter (g-thm.met 𝓤 H 𝓜 𝓖 𝓡)))

@@ -1,4 +1,4 @@
--- `switch::leaving` meets its contract: a walk of its MIR, by hand. A record in a local is lent to `leave` for a lifetime that is made for the call, and comes back at the value that `leave` ensures.
+-- `switch::leaving` meets its contract: a walk of its MIR, by hand. A record in a local is lent to `monitor_leave` for a lifetime that is made for the call, and comes back at the value that `leave` ensures.
 -- Its parameters and its result are plain, so its callers are covered by the borrow checker. Assumes nothing.
 use mathlib.Core.Path.{_≡_, refl, ap, subst}
 use Prim.Native.Nat.{ℕ}
@@ -44,10 +44,10 @@ use Rattle.switch.proofs.Left as L
 use Rattle.switch.proofs.Left.Laws as L′
 use Rattle.state.proofs.Running as T
 use Rattle.state.proofs.Running.Laws as T′
-use Rattle.switch.proofs.leave as g
-use Rattle.switch.proofs.leave.Symbol as g-def
-use Rattle.switch.proofs.leave.Symbol.{name as #g}
-use Rattle.switch.proofs.leave.Met as g-thm
+use Rattle.switch.proofs.monitor_leave as g
+use Rattle.switch.proofs.monitor_leave.Symbol as g-def
+use Rattle.switch.proofs.monitor_leave.Symbol.{name as #g}
+use Rattle.switch.proofs.monitor_leave.Met as g-thm
 use Rattle.switch.proofs.leaving.Key.{name as #f}
 use Rattle.switch.proofs.leaving as f
 use Rattle.switch.proofs.leaving.Statement as stated
@@ -156,4 +156,4 @@ leaving-spec 𝓤 H 𝓜 𝓖 𝓡 =
     entered 𝓤 H (tripleOf 𝓤 H (𝓖 .A) f.signature (f.spec 𝓤 H (𝓖 .A) (𝓜 .mem) (𝓡 .run)))
     (tables 𝓤 H 𝓜 𝓡 code.env .C) (tables 𝓤 H 𝓜 𝓡 code.env .Λ) #f code.function (code.unfolded 𝓤 H 𝓜 𝓡)
     (meets 𝓤 H (𝓖 .A) (givenOf 𝓤 H 𝓜 𝓖) (𝓜 .mem) (𝓡 .run) (tablesOf 𝓤 H 𝓜 (tables 𝓤 H 𝓜 𝓡 code.env))
-    (cited 𝓤 H (G 𝓤 H (𝓖 .A) (𝓜 .mem) (𝓡 .run)) 𝓜 𝓡 code.env #g g-def.routine code.calls-switch·leave (g-thm.met 𝓤 H 𝓜 𝓖 𝓡)))
+    (cited 𝓤 H (G 𝓤 H (𝓖 .A) (𝓜 .mem) (𝓡 .run)) 𝓜 𝓡 code.env #g g-def.routine code.calls-switch·monitor-leave (g-thm.met 𝓤 H 𝓜 𝓖 𝓡)))

@@ -11,13 +11,11 @@ returns c = record {
   twin-event-asked-one = λ κs a z z′ w w′. result;
   twin-replied-one = λ κs a z z′ w w′. result;
   twin-not-asked-one = λ κs a z z′ w w′. result;
-  host-monitor-start-one = λ κs a z z′ w w′ p q. (both (p .0) (q .0), λ i. (both (p .1) (q .1) i, (tt, (tt, tt))));
+  start-c-monitor-start-one = λ κs a z z′ w w′ p q. (both (p .0) (q .0), λ i. (both (p .1) (q .1) i, (tt, (tt, tt))));
   host-monitor-event-one = λ κs a z z′ w w′ p q. let o = both p q in ((λ i. o i .reply), λ i. (o i .monitor, (tt, (tt, (o i .memory, (o i .buffer, tt))))));
-  host-monitor-manifest-read-one = λ κs a z z′ w w′. result;
-  host-monitor-manifest-write-one = λ κs a z z′ w w′ p q. let o = both p q in ((λ i. o i .reply), λ i. (tt, (o i .buffer, tt)));
-  host-monitor-device-map-one = λ κs a z z′ w w′ p q. let o = both p q in ((λ i. o i .reply), λ i. (tt, (o i .buffer, tt)));
-  host-monitor-enter-one = λ κs a z z′ w w′ p q. (refl, λ i. (both p q i, (tt, (tt, (tt, tt)))));
-  host-monitor-leave-one = λ κs a z z′ w w′ p q. (both (p .0) (q .0), λ i. (both (p .1) (q .1) i, tt));
+  manifest-c-monitor-manifest-read-one = λ κs a z z′ w w′. result;
+  manifest-c-monitor-manifest-write-one = λ κs a z z′ w w′ p q. let o = both p q in ((λ i. o i .reply), λ i. (tt, (o i .buffer, tt)));
+  devicemap-c-monitor-device-map-one = λ κs a z z′ w w′ p q. let o = both p q in ((λ i. o i .reply), λ i. (tt, (o i .buffer, tt)));
   sha1-c-sha1-hash-one = λ κs a z z′ w w′. digest;
   wellformed-c-guddaroox-well-formed-one = λ κs a z z′ w w′. result;
 }

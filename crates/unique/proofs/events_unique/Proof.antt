@@ -7,8 +7,8 @@ use Rattle.unique.proofs.events_unique.Tie as tie
 
 returns : tie.Need-returns
 returns c = record {
-  switch-enter-one = λ κs a z z′ w w′ p q. (refl, λ i. (both p q i, (tt, (tt, (tt, tt)))));
-  switch-leave-one = λ κs a z z′ w w′ p q. (both (p .0) (q .0), λ i. (both (p .1) (q .1) i, tt));
+  switch-monitor-enter-one = λ κs a z z′ w w′ p q. (refl, λ i. (both p q i, (tt, (tt, (tt, tt)))));
+  switch-monitor-leave-one = λ κs a z z′ w w′ p q. (both (p .0) (q .0), λ i. (both (p .1) (q .1) i, tt));
   switch-entering-one = λ κs a z z′ w w′. result;
   switch-leaving-one = λ κs a z z′ w w′. result;
   touch-is-open-one = λ κs a z z′ w w′. result;

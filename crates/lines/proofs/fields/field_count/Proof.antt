@@ -1,9 +1,7 @@
 use mathlib.Core.Path.{_≡_, ap, _∙_}
-use mathlib.Core.Bool.{Bool, true, false}
 use Prim.Native.Nat.{ℕ, _≤_, _-_, _+_}
 use lib.ListN.{length, getD}
-use lib.Dec.{eqb}
-use Rattle.lists.specs.Below.{pick, sum-below}
+use Rattle.lists.specs.Below.{sum-below}
 use Rattle.lists.proofs.Sums.{sum-none, sum-more, sum-end}
 use Rattle.lines.specs.Fields.{spaceAt, fieldCount}
 use Rattle.lines.proofs.Laws.{one-space}

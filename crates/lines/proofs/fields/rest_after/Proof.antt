@@ -1,6 +1,6 @@
 use borrow.Rule.Slice.PartAt.{part-to-end}
 use mathlib.Core.Path.{_≡_, ap, _∙_}
-use Prim.Native.Nat.{ℕ, _≤_, _-_}
+use Prim.Native.Nat.{_≤_, _-_}
 use Rattle.lines.specs.Fields.{restAfter}
 use Rattle.lines.proofs.Laws.{rest-start, rest-turn}
 use borrow.Author.Needs.{needs}

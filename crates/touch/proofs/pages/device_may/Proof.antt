@@ -1,7 +1,6 @@
 use Rattle.state.specs.Face.{faceOf}
 use Rattle.touch.proofs.Plans.{device-open}
 use mathlib.Core.Path.{sym, _∙_}
-use borrow.Author.Needs.{needs}
 use Rattle.touch.proofs.pages.device_may.Statement.{statement}
 use Rattle.touch.proofs.pages.device_may.Tie as tie
 

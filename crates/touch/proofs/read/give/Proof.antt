@@ -1,4 +1,4 @@
-use Rattle.touch.proofs.Ranges.{range, range-fits}
+use Rattle.rules.proofs.Ranges.{range, range-fits}
 use Rattle.touch.proofs.Plans.{read-4, read-5, read-9, read-on}
 use Rattle.geometry.specs.Geometry.{isRange}
 use Prim.Native.Nat.{ℕ}

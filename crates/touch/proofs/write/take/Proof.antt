@@ -1,4 +1,4 @@
-use Rattle.touch.proofs.Ranges.{range, range-fits}
+use Rattle.rules.proofs.Ranges.{range, range-fits}
 use Rattle.touch.proofs.Plans.{write-4, write-5, write-on}
 use Rattle.geometry.specs.Geometry.{isRange}
 use lib.ListN.{length}
