@@ -2,21 +2,19 @@
 use Prim.Native.Nat.{ℕ, _+_, _≤_, _<_}
 use native.Mathlib.Omega.{arith}
 use mathlib.Core.Path.{_≡_, refl, sym, ap, subst, _∙_}
-use mathlib.Core.Logic.{⊎-elim}
 use mathlib.Core.Bool.{Bool, true, false, _&&_}
 use mathlib.Core.List.{List, []}
 use native.Mathlib.Decide.{ℕ-discrete}
 use lib.ListN.{length, getD}
 use lib.Seq.{sets}
 use lib.Dec.{ltb, eqb}
-use borrow.Author.Tests.{eqb-true, ltb-true}
+use borrow.Author.Tests.{lt-ltb, eqb-true, ltb-true}
 use Rattle.lists.specs.Below.{any-below}
 use Rattle.lists.specs.Bytes.{part}
-use Rattle.lists.proofs.Logic.{and-l, and-r, or-cases, decided}
+use Rattle.lists.proofs.Logic.{and-l, and-r, decided}
 use Rattle.lists.proofs.Any.{any-find, any-hit}
 use Rattle.lists.proofs.First.{first-at}
-use Rattle.lists.proofs.Parts.{part-none}
-use Rattle.geometry.specs.Geometry.{slotCount, halfPage, isRange, pageOf, startOf, mostPages}
+use Rattle.geometry.specs.Geometry.{slotCount, halfPage, pageOf, startOf, mostPages}
 use Rattle.fields.specs.declared.Entry.{Entry}
 use Rattle.fields.specs.declared.Fields.{Fields}
 use Rattle.fields.specs.Rules.{keepsRules}
@@ -32,7 +30,7 @@ use Rattle.state.specs.declared.Mode.{Mode}
 use Rattle.state.specs.declared.Mode.the-variants.{Legacy, Secure}
 use Rattle.state.specs.declared.Running.{Running}
 use Rattle.state.specs.declared.State.{State}
-use Rattle.state.specs.Zero.{noSlot, zeroRunning}
+use Rattle.state.specs.Zero.{noSlot, zeroSlot, zeroRunning}
 use Rattle.state.specs.Face.{Face, faceOf, pcrsOf, cardAt, isOpen, stateOf}
 use Rattle.state.proofs.Faces.{card-at, slots-back}
 use Rattle.wellformed.specs.WellFormed.{stateRight, wellFormed, outputAt, outRight}
@@ -42,12 +40,15 @@ use Rattle.events.specs.declared.Answer.the-variants as answer
 use Rattle.rules.specs.Plan.{refuse}
 use Rattle.rules.specs.Tests.{inRange, unlooked, keptAs, underMark, entryOf, callableAt, slotFor, withMode}
 use Rattle.rules.specs.Decide.{callRule, callEntry, entryFor, entered, returnRule, outFrom}
+use Rattle.touch.specs.Carried.{Owned, IsSlot}
 use Rattle.touch.proofs.Plans.{pass, stop}
 use Rattle.rules.proofs.Ranges.{range-fits}
 use Rattle.touch.proofs.Ready.{right, few-pages, kept-in, runs-in, ready, long}
 use Rattle.change.specs.declared.Change.{Change}
 use Rattle.change.specs.declared.Turn.the-variants.{Enters, Leaves}
 use Rattle.change.specs.Turns.{inMode, turnOf, Settles}
+use Rattle.call.specs.declared.places.Sought.{Sought}
+use Rattle.call.specs.Sought.{soughtIn}
 use Rattle.call.proofs.Entries.{entry-at}
 
 pub param-alone : (x : Fields) → paramOf (fieldsOf (x .r) 0 (x .runs) []) ≡ paramOf x
@@ -79,23 +80,25 @@ module _ (s : State) (h : stateRight s ≡ true) where
         let w = param x (kept x rules-in .runs-of) in
         sym (any-hit (isParamAt x) (x .r) (w .at) (w .below) (w .is))
 
-    has-param-in : (getD (s .slots) k noSlot .card .fields .r ≤ 4) × (any-below (getD (s .slots) k noSlot .card .fields .r) (isParamAt (fieldsOf (getD (s .slots) k noSlot .card .fields .r) 0 (getD (s .slots) k noSlot .card .fields .runs) [])) ≡ true)
-    has-param-in =
-        subst (λ (x : Card). (x .fields .r ≤ 4) × (any-below (x .fields .r) (isParamAt (fieldsOf (x .fields .r) 0 (x .fields .runs) [])) ≡ true)) (card-at (s .slots) k)
-        (kept-in s h k l g .bounds .few-runs, has-param)
-
     pub param-in : paramOf (cardAt (faceOf s) k .fields) < s .pages
     param-in =
         let x = cardAt (faceOf s) k .fields in
         omega (arith, held-under (faceOf s) (right s h) (paramOf x) k l (param-page x rules-in))
 
-    -- as the code finds the slot
-    pub param-same : paramOf (fieldsOf (getD (s .slots) k noSlot .card .fields .r) 0 (getD (s .slots) k noSlot .card .fields .runs) []) ≡ paramOf (cardAt (faceOf s) k .fields)
-    param-same = param-alone _ ∙ sym (ap (λ (x : Card). paramOf (x .fields)) (card-at (s .slots) k))
+    -- as the code has the slot
+    module _ (y : Slot) (e : IsSlot s k y) where
+      card-same : cardAt (faceOf s) k ≡ y .card
+      card-same = card-at (s .slots) k ∙ ap (λ (z : Slot). z .card) (sym e)
 
-    pub param-ready : (getD (s .slots) k noSlot .card .fields .r ≤ 4) × ((any-below (getD (s .slots) k noSlot .card .fields .r) (isParamAt (fieldsOf (getD (s .slots) k noSlot .card .fields .r) 0 (getD (s .slots) k noSlot .card .fields .runs) [])) ≡ true)
-        × (paramOf (fieldsOf (getD (s .slots) k noSlot .card .fields .r) 0 (getD (s .slots) k noSlot .card .fields .runs) []) < mostPages))
-    param-ready = (has-param-in .0, (has-param-in .1, omega (arith, param-same, param-in, few-pages s h)))
+      pub param-same : paramOf (fieldsOf (y .card .fields .r) 0 (y .card .fields .runs) []) ≡ paramOf (cardAt (faceOf s) k .fields)
+      param-same = param-alone _ ∙ sym (ap (λ (x : Card). paramOf (x .fields)) card-same)
+
+      pub param-ready : (y .card .fields .r ≤ 4) × ((any-below (y .card .fields .r) (isParamAt (fieldsOf (y .card .fields .r) 0 (y .card .fields .runs) [])) ≡ true)
+          × (paramOf (fieldsOf (y .card .fields .r) 0 (y .card .fields .runs) []) < mostPages))
+      param-ready =
+          let q = subst (λ (x : Card). (x .fields .r ≤ 4) × (any-below (x .fields .r) (isParamAt (fieldsOf (x .fields .r) 0 (x .fields .runs) [])) ≡ true)) card-same
+          (kept-in s h k l g .bounds .few-runs, has-param) in
+          (q .0, (q .1, omega (arith, param-same, param-in, few-pages s h)))
 
   -- the running call's output is an entry's
   pub output-small : (k : ℕ) → s .mode ≡ Secure k → s .running .length ≤ halfPage
@@ -117,29 +120,39 @@ out-fits s n k w e =
     go (yes q) t = omega (arith, out-none (faceOf s) (s .running .out) (s .running .length) t q)
     go (no q) t = omega (arith, range-fits (s .pages) (s .running .out) (s .running .length) (out-range (faceOf s) (s .running .out) (s .running .length) t q), long s n w)
 
--- a range that is looked at lies in memory; one that is not has length 0
-pub kept-fits : (p a n size : ℕ) → size ≡ startOf p → unlooked n (isRange p a n) ≡ true → keptAs n a + n ≤ size
-kept-fits p a n size e h =
-    ⊎-elim
-    (λ (t : eqb n 0 ≡ true). let q = eqb-true n 0 t in rw t (omega arith))
-    (λ (t : isRange p a n ≡ true). decided (eqb n 0)
-    (λ u. let q = eqb-true n 0 u in rw u (omega arith))
-    (λ u. rw u (omega (arith, range-fits p a n t))))
-    (or-cases (eqb n 0) (isRange p a n) h)
-
--- no bytes come from anywhere
-pub kept-part : (m : List ℕ) (a n : ℕ) → part m (keptAs n a) n ≡ part m a n
-kept-part m a n =
-    decided (eqb n 0)
-    (λ u. let q = eqb-true n 0 u in rw (u, q) (part-none m 0 ∙ sym (part-none m a)))
-    (λ u. rw u)
-
 -- ---- the state in another mode is the rule's
 
 pub mode-state : (s : State) → length (s .slots) ≡ slotCount → (m : Mode) (x : Running) → inMode s m x ≡ stateOf (withMode (faceOf s) m x) (pcrsOf s)
 unfolding stateOf
 mode-state s e m x =
     ap (λ (xs : List Slot). record { pages = s .pages; kept = s .kept; owner = s .owner; slots = xs; mode = m; running = x }) (sym (slots-back (s .slots) e))
+
+-- ---- what the code has of the state
+
+-- a page that is looked at, by its owner
+pub open-by : (s : State) (a n v : ℕ) → Owned s (pageOf a) v → unlooked n (isOpen (faceOf s) (pageOf a)) ≡ unlooked n (ltb (pageOf a) (s .pages) && eqb v 0)
+open-by s a n v e = ap (λ (w : ℕ). unlooked n (ltb (pageOf a) (s .pages) && eqb w 0)) (sym e)
+
+-- a slot that was sought and found, and one that was not
+module _ (s : State) (j : ℕ) where
+  pub sought-at : (k : ℕ) → k < slotCount → k ≡ j → record { k = k; slot = getD (s .slots) k noSlot } ≡ soughtIn s j
+  sought-at k l e = subst (λ (i : ℕ). record { k = k; slot = getD (s .slots) k noSlot } ≡ soughtIn s i) e (rw (lt-ltb k slotCount l))
+
+  pub sought-none : {x : Slot} → x ≡ zeroSlot → slotCount ≡ j → record { k = slotCount; slot = x } ≡ soughtIn s j
+  sought-none {x} h e = subst (λ (i : ℕ). record { k = slotCount; slot = x } ≡ soughtIn s i) e (ap (λ (y : Slot). record { k = slotCount; slot = y }) h)
+
+  module _ (x : Sought) (e : x ≡ soughtIn s j) where
+    pub sought-k : x .k ≡ j
+    sought-k = ap (λ (y : Sought). y .k) e
+
+    pub sought-slot : x .k < slotCount → IsSlot s (x .k) (x .slot)
+    sought-slot l =
+        let n : j < slotCount = omega (arith, sought-k) in
+        ap (λ (y : Sought). y .slot) e ∙ rw (lt-ltb j slotCount n, sought-k)
+
+-- the entry that a slot at hand has is the state's
+pub entry-by : (s : State) (k : ℕ) (x : Slot) (a : ℕ) → IsSlot s k x → entryFound (getD (s .slots) k noSlot .card) a ≡ entryFound (x .card) a
+entry-by s k x a e = ap (λ (y : Slot). entryFound (y .card) a) (sym e)
 
 -- ---- the ends of call
 

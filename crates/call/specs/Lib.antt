@@ -1,1 +1,2 @@
 -- no definitions of its own
+pub mod Sought

@@ -16,7 +16,8 @@ ghost use Rattle.fields.specs.Fields.{fieldsOf, runPlaces, entryPlaces};
 ghost use Rattle.fields.specs.Pages.{isParamAt, paramOf};
 ghost use Rattle.state.specs.Face.{faceOf, cardAt};
 ghost use Rattle.wellformed.specs.WellFormed.{stateRight};
-ghost use Rattle.rules.specs.Tests.{underMark, entryOf, slotFor, keptAs};
+ghost use Rattle.rules.specs.Tests.{underMark, entryOf, slotFor};
+ghost use Rattle.call.specs.Sought.{soughtIn};
 
 // The slot is registered under the mark, and has an entry at the address.
 fn callable(slot: Slot, mark: u64, address: usize) -> bool
@@ -35,20 +36,30 @@ fn callable(slot: Slot, mark: u64, address: usize) -> bool
     false
 }
 
-// The lowest such slot; none: 8.
-pub fn slot_for(s: State, mark: u64, address: usize) -> usize
+// A slot and its number; none: 8, and a zero slot.
+pub struct Sought {
+    pub k: usize,
+    pub slot: Slot,
+}
+
+// The lowest such slot.
+pub fn slot_for(s: State, mark: u64, address: usize) -> Sought
     requires { ⌜ stateRight s ≡ true ⌝ }
-    ensures { λ r. ⌜ r ≡ slotFor (faceOf s) mark address ⌝ }
+    ensures { λ r. ⌜ r ≡ soughtIn s (slotFor (faceOf s) mark address) ⌝ }
 {
     let mut k: usize = 0;
     while k < Geometry::SLOTS {
         let slot = s.slots[k];
         if callable(slot, mark, address) {
-            return k;
+            return Sought { k, slot: slot };
         }
         k += 1;
     }
-    Geometry::SLOTS
+    let zero = Slot::zero();
+    Sought {
+        k: Geometry::SLOTS,
+        slot: zero,
+    }
 }
 
 // The param page of runs that have one.
@@ -74,14 +85,4 @@ pub fn param_start(n: usize, runs: [Run; Fields::RUNS]) -> usize
 {
     let page = param_of(n, runs);
     page * Geometry::PAGE
-}
-
-// "A length of 0 .. means that address isn't looked at and is kept as 0."
-pub fn kept_as(n: usize, address: usize) -> usize
-    ensures { λ r. ⌜ r ≡ keptAs n address ⌝ }
-{
-    if n == 0 {
-        return 0;
-    }
-    address
 }

@@ -5,6 +5,7 @@ use change::Turn;
 use events::Answer;
 use geometry::Geometry;
 use state::Mode;
+use state::Slot;
 use state::State;
 ghost use mathlib.Core.Path.{_≡_};
 ghost use mathlib.Core.Bool.{true};
@@ -12,17 +13,18 @@ ghost use lib.ListN.{length};
 ghost use Rattle.state.specs.Face.{faceOf};
 ghost use Rattle.wellformed.specs.WellFormed.{wellFormed};
 ghost use Rattle.rules.specs.Decide.{returnRule};
+ghost use Rattle.touch.specs.Carried.{IsSlot};
 ghost use Rattle.change.specs.Turns.{Acts};
 
-pub fn return_(s: State, memory: &mut [u8], k: usize) -> Change
-    requires { ⌜ (wellFormed s (length (now memory)) ≡ true) × (s .mode ≡ Mode.Secure k) ⌝ }
+// The slot is the one that runs, number k.
+pub fn return_(s: State, slot: Slot, memory: &mut [u8], k: usize) -> Change
+    requires { ⌜ (wellFormed s (length (now memory)) ≡ true) × ((s .mode ≡ Mode.Secure k) × IsSlot s k slot) ⌝ }
     ensures { λ r. ⌜ Acts (returnRule (faceOf s) k) s (now (memory .entry)) r (now (memory .exit)) ⌝ }
 {
     let held = s.running;
     let left = switch::leaving(held);
     let was = left.was;
     let rest = left.rest;
-    let slot = s.slots[k];
     let fields = slot.card.fields;
     let n = fields.r;
     let runs = fields.runs;

@@ -26,6 +26,7 @@ use Rattle.touch.specs.Carried.{Steps}
 use Rattle.change.specs.declared.Turn.{Turn}
 use Rattle.change.specs.declared.Turn.the-variants.{Kept, Enters, Leaves, Frees, Extends, Enrolls}
 use Rattle.change.specs.declared.Change.{Change}
+use Rattle.change.specs.declared.Steer.{Steer}
 
 -- the state in another mode, with another running record
 abbrev pub inMode : State → Mode → Running → State
@@ -68,6 +69,21 @@ moves (Leaves y) = true
 moves (Frees k) = true
 moves (Extends k i) = true
 moves (Enrolls k mark) = true
+
+abbrev pub steered : Mode → Running → Steer
+steered m x = record { steers = true; mode = m; running = x }
+
+abbrev pub unsteered : Steer
+unsteered = record { steers = false; mode = Legacy; running = zeroRunning }
+
+-- the mode and the running record after a turn that changes these two alone
+abbrev pub steering : Turn → Steer
+steering Kept = unsteered
+steering (Enters y) = steered (Secure (y .slot)) y
+steering (Leaves y) = steered Legacy y
+steering (Frees k) = unsteered
+steering (Extends k i) = unsteered
+steering (Enrolls k mark) = unsteered
 
 -- the answer, and the state after the change
 abbrev pub settled : State → Change → Stepped

@@ -34,6 +34,13 @@ pub struct Change {
     pub digest: Digest,
 }
 
+// The mode and the running record after a turn that changes these two alone.
+pub struct Steer {
+    pub steers: bool,
+    pub mode: Mode,
+    pub running: Running,
+}
+
 pub fn turned(answer: Answer, turn: Turn) -> Change
     ensures { λ r. ⌜ r ≡ Turns.turnOf answer turn ⌝ }
 {
@@ -187,5 +194,45 @@ pub fn moves(turn: Turn) -> bool
         Turn::Frees(_) => true,
         Turn::Extends { slot: _, index: _ } => true,
         Turn::Enrolls { slot: _, mark: _ } => true,
+    }
+}
+
+fn unsteered() -> Steer
+    ensures { λ r. ⌜ r ≡ Turns.unsteered ⌝ }
+{
+    Steer {
+        steers: false,
+        mode: Mode::Legacy,
+        running: Running {
+            slot: 0,
+            out: 0,
+            length: 0,
+        },
+    }
+}
+
+// The mode and the running record after the turn, where nothing else of the state changes.
+pub fn steering(turn: Turn) -> Steer
+    ensures { λ r. ⌜ r ≡ Turns.steering turn ⌝ }
+{
+    match turn {
+        Turn::Kept => unsteered(),
+        Turn::Enters(running) => {
+            Steer {
+                steers: true,
+                mode: Mode::Secure(running.slot),
+                running: running,
+            }
+        }
+        Turn::Leaves(running) => {
+            Steer {
+                steers: true,
+                mode: Mode::Legacy,
+                running: running,
+            }
+        }
+        Turn::Frees(_) => unsteered(),
+        Turn::Extends { slot: _, index: _ } => unsteered(),
+        Turn::Enrolls { slot: _, mark: _ } => unsteered(),
     }
 }

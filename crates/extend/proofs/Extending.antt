@@ -26,7 +26,7 @@ use Rattle.rules.specs.Tests.{keptAs}
 use Rattle.rules.specs.Decide.{sourceRight, sourceReached, extendRule}
 use Rattle.rules.specs.Act.{extended}
 use Rattle.touch.proofs.Plans.{pass, stop}
-use Rattle.call.proofs.Calls.{kept-fits, kept-part}
+use Rattle.switch.proofs.Kept.{kept-fits, kept-part}
 use Rattle.change.specs.declared.Change.{Change}
 use Rattle.change.specs.Turns.{withPcr, extendsBy, Settles}
 

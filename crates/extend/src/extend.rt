@@ -1,5 +1,4 @@
 // Extend, in secure mode in slot k. "µPCR new = SHA-1(old, SHA-1(bytes))."
-use call::places;
 use change::Change;
 use events::Answer;
 use geometry::Geometry;
@@ -10,10 +9,11 @@ ghost use mathlib.Core.Path.{_≡_};
 ghost use mathlib.Core.Bool.{true};
 ghost use Prim.Native.Nat.{_<_};
 ghost use lib.ListN.{length};
-ghost use Rattle.geometry.specs.Geometry.{slotCount};
+ghost use Rattle.geometry.specs.Geometry.{slotCount, pageOf};
 ghost use Rattle.state.specs.Face.{faceOf};
 ghost use Rattle.wellformed.specs.WellFormed.{wellFormed};
 ghost use Rattle.rules.specs.Decide.{sourceRight, sourceReached, extendRule};
+ghost use Rattle.touch.specs.Carried.{Owned};
 ghost use Rattle.change.specs.Turns.{Settles};
 
 // "all of it, at most 4,096, else 4"; "Memory length 0 hashes no bytes and the address isn't looked at."
@@ -29,14 +29,14 @@ fn source_right(s: State, source: Source, size: usize, address: usize, n: usize)
     }
 }
 
-fn source_reached(s: State, k: usize, source: Source, address: usize, n: usize) -> bool
-    requires { ⌜ k < slotCount ⌝ }
+fn source_reached(s: State, v: u8, k: usize, source: Source, address: usize, n: usize) -> bool
+    requires { ⌜ (k < slotCount) × Owned s (pageOf address) v ⌝ }
     ensures { λ r. ⌜ r ≡ sourceReached (faceOf s) k source address n ⌝ }
 {
     match source {
         Source::Payload => true,
         Source::Memory => {
-            let own = pages::is_own(&s.owner, k, address / Geometry::PAGE);
+            let own = pages::is_own(v, k);
             (n == 0) | own
         }
     }
@@ -44,6 +44,7 @@ fn source_reached(s: State, k: usize, source: Source, address: usize, n: usize) 
 
 pub fn extend<'a>(
     s: State,
+    v: u8,
     payload: &'a [u8],
     memory: &'a [u8],
     k: usize,
@@ -52,7 +53,7 @@ pub fn extend<'a>(
     address: usize,
     n: usize,
 ) -> Change
-    requires { ⌜ (wellFormed s (length (now memory)) ≡ true) × (k < slotCount) ⌝ }
+    requires { ⌜ (wellFormed s (length (now memory)) ≡ true) × ((k < slotCount) × Owned s (pageOf address) v) ⌝ }
     ensures { λ r. ⌜ Settles (extendRule (faceOf s) k (length (now (payload .entry))) index source address n) (now (payload .entry)) s (now (memory .entry)) r (now (memory .entry)) ⌝ }
 {
     if Geometry::PCRS <= index {
@@ -61,10 +62,10 @@ pub fn extend<'a>(
     if !source_right(s, source, payload.len(), address, n) {
         return change::kept(Answer::Refused(4));
     }
-    if !source_reached(s, k, source, address, n) {
+    if !source_reached(s, v, k, source, address, n) {
         return change::kept(Answer::Refused(5));
     }
-    let from = places::kept_as(n, address);
+    let from = switch::kept_as(n, address);
     let part = memory::chosen(payload, memory, source, from, n);
     let digest = sha1::hash(part);
     change::extending(k, index, digest)

@@ -1,11 +1,15 @@
 -- What an event gives C: the rules' step, through the twin.
 use Prim.Native.Nat.{ℕ}
 use mathlib.Core.Path.{_≡_}
-use mathlib.Core.Bool.{false}
+use mathlib.Core.Bool.{true, false}
 use mathlib.Core.List.{List}
 use Rattle.state.specs.declared.State.{State}
+use Rattle.state.specs.declared.Running.{Running}
 use Rattle.events.specs.declared.Event.{Event}
 use Rattle.rules.specs.Act.{Out, step}
+use Rattle.wellformed.specs.declared.Sight.{Sight}
+use Rattle.wellformed.specs.Seen.{nothingSeen}
+use Rattle.monitor.specs.Looks.{looked}
 use Rattle.change.specs.declared.Change.{Change}
 use Rattle.change.specs.Turns.{changedBy, Fits}
 use Rattle.twin.specs.declared.Monitor.{Monitor}
@@ -39,12 +43,25 @@ hostAsked Unknown m payload memory buffer = hosted unknownReply m memory buffer
 unfoldable pub hostStep : Monitor → Request → List ℕ → List ℕ → List ℕ → Hosted
 hostStep m q payload memory buffer = hostAsked (askedOf q) m payload memory buffer
 
+-- what the event that was asked looks at; where none was, nothing
+abbrev pub lookedFor : Asked → Monitor → Sight
+lookedFor (Known e) m = looked e (openedOf m)
+lookedFor Unknown m = nothingSeen
+
+unfoldable pub hostLooked : Monitor → Request → Sight
+hostLooked m q = lookedFor (askedOf q) m
+
 -- the state after the change
 unfoldable pub renewedBy : Monitor → Change → Monitor
 renewedBy m c = shutOf (changedBy (openedOf m) (c .turn) (c .fields) (c .digest))
 
--- what an event comes to: the reply and the state after the change, which can be made; where nothing moves, that is the state as it was
+-- the state with another mode and another running record
+abbrev pub steeredBy : Monitor → ℕ → Running → Monitor
+steeredBy m n x = record { pages = m .pages; kept = m .kept; owner = m .owner; slots = m .slots; mode = n; running = x }
+
+-- what an event comes to: the reply and the state after the change, which can be made; where it steers, that is the state with the mode and the running record alone changed, and where nothing moves, the state as it was
 pub record Comes (m : Monitor) (h : Heard) (memory buffer : List ℕ) (o : Hosted) : Type 0 where
   pub out : hosted (h .reply) (renewedBy m (h .change)) memory buffer ≡ o
+  pub steered : h .steers ≡ true → renewedBy m (h .change) ≡ steeredBy m (h .mode) (h .running)
   pub stays : h .moved ≡ false → renewedBy m (h .change) ≡ m
   pub fits : Fits (openedOf m) (h .change .turn) (h .change .fields)

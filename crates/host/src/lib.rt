@@ -3,37 +3,71 @@
 ghost use mathlib.Core.Path.{_≡_};
 ghost use Rattle.change.specs.Turns.{Fits};
 ghost use Rattle.twin.specs.Twin.{openedOf};
-ghost use Rattle.host.specs.Host.{Comes, renewedBy, hosted, hostStep};
+ghost use Rattle.host.specs.Host.{Comes, renewedBy, hosted, hostStep, hostLooked};
 ghost use Rattle.host.specs.Promise.{RefusalsKeepAll};
 use change::Change;
 use events::Answer;
+use state::Running;
 use twin::Asked;
 use twin::Monitor;
 use twin::Reply;
 use twin::Request;
+use wellformed::Sight;
 
-// What an event comes to: its reply, and the change where the state does not stay.
+// What an event comes to: its reply; the mode and the running record, where these alone change; else the change, where the state does not stay.
 pub struct Heard {
+    pub steers: bool,
     pub moved: bool,
+    pub mode: usize,
+    pub running: Running,
     pub reply: Reply,
     pub change: Change,
 }
 
-// One event, on a state by value.
-fn hear(m: Monitor, q: Request, payload: &[u8], memory: &mut [u8], buffer: &mut [u8]) -> Heard
+// What the event looks at. C's state is read for it once, and read again for what the event does: so it is copied for the test alone.
+fn looked(m: Monitor, q: Request) -> Sight
+    ensures { λ r. ⌜ r ≡ hostLooked m q ⌝ }
+{
+    let a = twin::event_asked(q);
+    match a {
+        Asked::Known(e) => {
+            let s = twin::opened(m);
+            monitor::looked(e, s)
+        }
+        Asked::Unknown => wellformed::unseen(),
+    }
+}
+
+// One event, on a state by value, by what it saw.
+fn hear(
+    m: Monitor,
+    q: Request,
+    x: Sight,
+    payload: &[u8],
+    memory: &mut [u8],
+    buffer: &mut [u8],
+) -> Heard
+    requires { ⌜ x ≡ hostLooked m q ⌝ }
     ensures { λ r. ⌜ Comes m r (now (memory .exit)) (now (buffer .exit)) (hostStep m q (now (payload .entry)) (now (memory .entry)) (now (buffer .entry))) ⌝ }
 {
     let a = twin::event_asked(q);
     match a {
         Asked::Known(e) => {
             let s = twin::opened(m);
-            let c = monitor::decided(e, payload, s, memory, buffer);
+            let c = monitor::decided(e, x, payload, s, memory, buffer);
             let answer = c.answer;
             let turn = c.turn;
             let reply = twin::replied(answer);
+            let steer = change::steering(turn);
+            let to = steer.mode;
+            let mode = twin::number_of(to);
+            let running = steer.running;
             let moved = change::moves(turn);
             Heard {
+                steers: steer.steers,
                 moved: moved,
+                mode: mode,
+                running: running,
                 reply: reply,
                 change: c,
             }
@@ -42,7 +76,14 @@ fn hear(m: Monitor, q: Request, payload: &[u8], memory: &mut [u8], buffer: &mut 
             let reply = twin::not_asked();
             let c = change::kept(Answer::Done);
             Heard {
+                steers: false,
                 moved: false,
+                mode: 0,
+                running: Running {
+                    slot: 0,
+                    out: 0,
+                    length: 0,
+                },
                 reply: reply,
                 change: c,
             }
@@ -60,7 +101,7 @@ fn renewed(m: Monitor, c: Change) -> Monitor
     twin::shut(t)
 }
 
-// One event, on the lent state: where it stays, nothing is stored.
+// One event, on the lent state. A call and a return store the mode and the running record alone; where the state stays, nothing is stored.
 #[no_mangle]
 pub extern "C" fn monitor_event(
     m: &mut Monitor,
@@ -71,12 +112,17 @@ pub extern "C" fn monitor_event(
 ) -> Reply
     ensures { λ r. ⌜ hosted r (now (m .exit)) (now (memory .exit)) (now (buffer .exit)) ≡ hostStep (now (m .entry)) q (now (payload .entry)) (now (memory .entry)) (now (buffer .entry)) ⌝ }
 {
-    let was = *m;
-    let h = hear(was, q, payload, memory, buffer);
-    if h.moved {
-        let c = h.change;
-        let t = renewed(was, c);
-        *m = t;
+    let x = looked(*m, q);
+    let h = hear(*m, q, x, payload, memory, buffer);
+    if h.steers {
+        m.mode = h.mode;
+        m.running = h.running;
+    } else {
+        if h.moved {
+            let c = h.change;
+            let t = renewed(*m, c);
+            *m = t;
+        }
     }
     h.reply
 }

@@ -1,7 +1,7 @@
 -- Each event's end: what its function says is what the step's rule says.
 use Prim.Native.Nat.{ℕ}
-use mathlib.Core.Path.{_≡_, sym, subst}
-use mathlib.Core.Bool.{true}
+use mathlib.Core.Path.{_≡_, refl, sym, subst, _∙_}
+use mathlib.Core.Bool.{true, false}
 use mathlib.Core.List.{List}
 use lib.ListN.{length}
 use Rattle.geometry.specs.Geometry.{slotCount}
@@ -10,23 +10,32 @@ use Rattle.manifest.specs.Reader.{readManifest}
 use Rattle.state.specs.declared.State.{State}
 use Rattle.state.specs.Face.{faceOf, pcrsOf}
 use Rattle.events.specs.declared.Answer.{Answer}
+use Rattle.events.specs.declared.Answer.the-variants as answer
 use Rattle.events.specs.declared.Event.{Event}
 use Rattle.events.specs.declared.Event.the-variants.{Register, Unregister, Call, Return, Jump, Read, Write, DeviceRead, DeviceWrite, Extend, PcrRead}
+use Rattle.wellformed.specs.WellFormed.{wellFormed}
 use Rattle.rules.specs.Plan.{nothing, keep, Plan}
 use Rattle.rules.specs.Tests.{read, write, device}
 use Rattle.rules.specs.Decide.{ruleIn, byMode, registerRule, unregisterRule, callRule, returnRule, jumpLegacy, jumpSecure, readRule, writeRule, extendRule, pcrRule}
-use Rattle.rules.specs.Act.{Out, act}
+use Rattle.rules.specs.Act.{Out, act, step}
 use Rattle.touch.specs.Carried.{Fills, Stores}
 use Rattle.change.specs.declared.Change.{Change}
 use Rattle.change.specs.declared.Turn.the-variants.{Kept}
 use Rattle.change.specs.Turns.{turnOf, Settles, Acts}
 use Rattle.monitor.specs.Allowed.{slotIn, allowed, outOf, Comes}
 use Rattle.monitor.proofs.Rest.{Leaves, register-nothing, unregister-nothing, call-nothing, return-nothing, jump-nothing, extend-nothing, write-nothing, write-leaves, read-leaves, read-keeps, pcr-leaves, pcr-keeps}
-use Rattle.monitor.proofs.Outs.{of-steps, of-fills, of-stores, as-register, as-unregister, as-call, as-return, as-jump, as-read, as-write, as-device-read, as-device-write, as-extend, as-pcr}
+use Rattle.monitor.proofs.Outs.{of-steps, of-fills, of-stores, of-refuse, step-1, step-as, as-register, as-unregister, as-call, as-return, as-jump, as-read, as-write, as-device-read, as-device-write, as-extend, as-pcr}
 
 -- the state stays
 pub kept-comes : {o : Out} {m b : List ℕ} (s : State) (a : Answer) (c : Change) → c ≡ turnOf a Kept → outOf (record { answer = a; state = s }) m b ≡ o → Comes s c m b o
 kept-comes {o} {m} {b} s a c q h = subst (λ (z : Change). Comes s z m b o) (sym q) (record { out = h; fits = tt })
+
+-- check 1 refuses
+pub refuses-1 : (s : State) → length (s .slots) ≡ slotCount → (payload buffer m : List ℕ) (ev : Event) (c : Change) → c ≡ turnOf (answer.Refused 1) Kept → wellFormed s (length m) ≡ false
+    → Comes s c m buffer (step s m ev payload buffer)
+refuses-1 s e payload buffer m ev c q h =
+    kept-comes s (answer.Refused 1) c q
+    (of-refuse s e 1 payload buffer m refl ∙ sym (step-as s m payload buffer ev (step-1 s m payload buffer ev h)))
 
 module _ (s : State) (e : length (s .slots) ≡ slotCount) (payload buffer m : List ℕ) (ev : Event) (h : allowed (s .mode) ev ≡ true) where
   abbrev Ends : Change → List ℕ → List ℕ → Type 0

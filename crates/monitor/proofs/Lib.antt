@@ -1,3 +1,4 @@
 pub mod Rest
 pub mod Outs
 pub mod Ends
+pub mod Sights

@@ -1,5 +1,5 @@
 -- What a release asks of the state, and that it is the rule's.
-use Prim.Native.Nat.{ℕ, _-_, _≤_, _<_}
+use Prim.Native.Nat.{ℕ, _+_, _-_, _≤_, _<_}
 use native.Mathlib.Omega.{arith}
 use mathlib.Core.Path.{_≡_, refl, sym, ap, subst, _∙_}
 use mathlib.Core.Bool.{true, false, _&&_}
@@ -13,6 +13,7 @@ use Rattle.lists.proofs.All.{all-at}
 use Rattle.geometry.specs.Geometry.{pageSize, slotCount, startOf, pageOf}
 use Rattle.fields.specs.declared.Fields.{Fields}
 use Rattle.fields.specs.Fields.{fieldsOf, runAt, endOf}
+use Rattle.fields.specs.Rules.{inCode}
 use Rattle.fields.specs.Pages.{pagesOf, pagesUnder, underAt}
 use Rattle.state.specs.declared.Card.{Card}
 use Rattle.state.specs.declared.Slot.{Slot}
@@ -30,8 +31,9 @@ use Rattle.rules.specs.Plan.{Plan, refuse, still, nothing, keep, same}
 use Rattle.rules.specs.Tests.{given, withCard, underMark, mayReach, execute, ownCode}
 use Rattle.rules.specs.Decide.{released, unregisterRule, jumpLegacy, jumpSecure}
 use Rattle.rules.specs.Act.{sealed}
+use Rattle.touch.specs.Carried.{Owned, IsSlot}
 use Rattle.touch.proofs.Plans.{pass, stop}
-use Rattle.touch.proofs.Ready.{right, few-pages, few-runs, ready, long}
+use Rattle.touch.proofs.Ready.{card-is, right, few-pages, few-runs, ready, long}
 use Rattle.change.specs.declared.Change.{Change}
 use Rattle.change.specs.declared.Turn.the-variants.{Kept, Frees}
 use Rattle.change.specs.Turns.{vacated, turnOf, Settles}
@@ -57,15 +59,15 @@ module _ (s : State) (h : stateRight s ≡ true) where
   runs-fit-at : (k : ℕ) → k < slotCount → RunsFit (cardAt (faceOf s) k .fields .r) (cardAt (faceOf s) k .fields .runs)
   runs-fit-at k l = record { few = few-runs s h k l; fits = λ i b. omega (arith, runs-under k l i b, few-pages s h) }
 
-  -- as the code finds the slot
-  pub runs-fit : (k : ℕ) → k < slotCount → RunsFit (getD (s .slots) k noSlot .card .fields .r) (getD (s .slots) k noSlot .card .fields .runs)
+  -- as the state has the slot
+  runs-fit : (k : ℕ) → k < slotCount → RunsFit (getD (s .slots) k noSlot .card .fields .r) (getD (s .slots) k noSlot .card .fields .runs)
   runs-fit k l = subst (λ (x : Card). RunsFit (x .fields .r) (x .fields .runs)) (card-at (s .slots) k) (runs-fit-at k l)
 
-pub runs-in : (s : State) (n : ℕ) → wellFormed s n ≡ true → (k : ℕ) → k < slotCount → RunsIn (getD (s .slots) k noSlot .card .fields .r) (getD (s .slots) k noSlot .card .fields .runs) n
-runs-in s n w k l =
+-- as the code has the slot
+pub runs-in : (s : State) (n : ℕ) → wellFormed s n ≡ true → (k : ℕ) (x : Slot) → k < slotCount → IsSlot s k x → RunsIn (x .card .fields .r) (x .card .fields .runs) n
+runs-in s n w k x l o =
     let h = ready s n w in
-    subst (λ (x : Card). RunsIn (x .fields .r) (x .fields .runs) n) (card-at (s .slots) k)
-    (record { few = few-runs s h k l; fits = λ i b. omega (arith, runs-under s h k l i b, long s n w) })
+    rw (card-is s k x o) (record { few = few-runs s h k l; fits = λ i b. omega (arith, runs-under s h k l i b, long s n w) })
 
 -- ---- the rule's release
 
@@ -80,16 +82,21 @@ module _ (s : State) (k : ℕ) (e : length (s .slots) ≡ slotCount) (l : k < sl
       ap (λ (xs : List Slot). record { pages = s .pages; kept = s .kept; owner = given (s .owner) (cardAt (faceOf s) k .fields) 0; slots = xs; mode = Legacy; running = zeroRunning })
       (sym (state-set s k zeroSlot e l))
 
-  pub released-settles : stateRight s ≡ true → (c : Change) → c ≡ turnOf a (Frees k)
-      → m′ ≡ wipe pageSize m (pagesOf (fieldsOf (getD (s .slots) k noSlot .card .fields .r) 0 (getD (s .slots) k noSlot .card .fields .runs) []))
+  pub released-settles : (x : Slot) → IsSlot s k x → stateRight s ≡ true → (c : Change) → c ≡ turnOf a (Frees k)
+      → m′ ≡ wipe pageSize m (pagesOf (fieldsOf (x .card .fields .r) 0 (x .card .fields .runs) []))
       → Settles (released (faceOf s) k a) payload s m c m′
   unfolding released
-  released-settles h c p q =
+  released-settles x o h c p q =
       subst (λ (z : Change). Settles (released (faceOf s) k a) payload s m z m′) (sym p)
       (record {
-        steps = record { answer = refl; state = vacated-state; memory = q ∙ ap (wipe pageSize m) (pages-alone _ ∙ sym (ap (λ (y : Card). pagesOf (y .fields)) (card-at (s .slots) k))) };
+        steps = record { answer = refl; state = vacated-state; memory = q ∙ ap (wipe pageSize m) (pages-alone _ ∙ ap (λ (y : Card). pagesOf (y .fields)) (card-is s k x o)) };
         fits = (l, runs-fit s h k l);
       })
+
+-- ---- what the code tests is what the rules test
+
+pub own-code : (s : State) (k p v : ℕ) (x : Slot) → Owned s p v → IsSlot s k x → eqb v (k + 1) && inCode (x .card .fields) p ≡ ownCode (faceOf s) k p
+own-code s k p v x e o = rw (e, card-is s k x o)
 
 -- ---- the ends of the rules
 

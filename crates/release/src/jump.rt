@@ -4,40 +4,41 @@ use change::Change;
 use events::Answer;
 use geometry::Geometry;
 use state::Mode;
+use state::Slot;
 use state::State;
 use touch::pages;
 ghost use mathlib.Core.Path.{_≡_};
-ghost use mathlib.Core.Bool.{true, _&&_};
-ghost use Prim.Native.Nat.{ℕ, _<_};
+ghost use mathlib.Core.Bool.{true};
+ghost use Prim.Native.Nat.{_<_};
 ghost use lib.ListN.{length};
-ghost use Rattle.geometry.specs.Geometry.{slotCount};
+ghost use Rattle.geometry.specs.Geometry.{slotCount, pageOf};
 ghost use Rattle.state.specs.Face.{faceOf};
-ghost use Rattle.wellformed.specs.WellFormed.{stateRight, wellFormed};
+ghost use Rattle.wellformed.specs.WellFormed.{wellFormed};
 ghost use Rattle.rules.specs.Decide.{jumpLegacy, jumpSecure, byMode};
+ghost use Rattle.touch.specs.Carried.{Owned, IsSlot, Runs};
 ghost use Rattle.change.specs.Turns.{Acts};
 
-fn jump_legacy(s: State, address: usize) -> Answer
-    requires { ⌜ stateRight s ≡ true ⌝ }
+fn jump_legacy(s: State, v: u8, address: usize) -> Answer
+    requires { ⌜ Owned s (pageOf address) v ⌝ }
     ensures { λ r. ⌜ r ≡ jumpLegacy (faceOf s) address .answer ⌝ }
 {
     let page = address / Geometry::PAGE;
     if s.pages <= page {
         return Answer::Refused(4);
     }
-    if s.owner[page] != 0 {
+    if v != 0 {
         return Answer::Refused(5);
     }
     Answer::Done
 }
 
-fn jump_secure(s: State, memory: &mut [u8], k: usize, address: usize) -> Change
-    requires { ⌜ (wellFormed s (length (now memory)) ≡ true) × (k < slotCount) ⌝ }
+fn jump_secure(s: State, slot: Slot, v: u8, memory: &mut [u8], k: usize, address: usize) -> Change
+    requires { ⌜ (wellFormed s (length (now memory)) ≡ true) × ((k < slotCount) × (Owned s (pageOf address) v × IsSlot s k slot)) ⌝ }
     ensures { λ r. ⌜ Acts (jumpSecure (faceOf s) k address) s (now (memory .entry)) r (now (memory .exit)) ⌝ }
 {
     let page = address / Geometry::PAGE;
-    let own = pages::is_own_of(s, k, page);
-    let code = pages::in_code_of(s, k, page);
-    let slot = pages::slot_at(s, k);
+    let own = pages::is_own(v, k);
+    let code = pages::in_code_of(slot, page);
     let fields = slot.card.fields;
     let n = fields.r;
     let runs = fields.runs;
@@ -47,16 +48,16 @@ fn jump_secure(s: State, memory: &mut [u8], k: usize, address: usize) -> Change
     release::release(memory, n, runs, k, Answer::Terminated(k))
 }
 
-pub fn jump(s: State, memory: &mut [u8], address: usize) -> Change
-    requires { ⌜ wellFormed s (length (now memory)) ≡ true ⌝ }
+pub fn jump(s: State, slot: Slot, v: u8, memory: &mut [u8], address: usize) -> Change
+    requires { ⌜ (wellFormed s (length (now memory)) ≡ true) × (Owned s (pageOf address) v × Runs s slot) ⌝ }
     ensures { λ r. ⌜ Acts (byMode (s .mode) (jumpLegacy (faceOf s) address) (λ k. jumpSecure (faceOf s) k address)) s (now (memory .entry)) r (now (memory .exit)) ⌝ }
 {
     let mode = s.mode;
     match mode {
         Mode::Legacy => {
-            let answer = jump_legacy(s, address);
+            let answer = jump_legacy(s, v, address);
             change::kept(answer)
         },
-        Mode::Secure(k) => jump_secure(s, memory, k, address),
+        Mode::Secure(k) => jump_secure(s, slot, v, memory, k, address),
     }
 }

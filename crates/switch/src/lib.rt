@@ -13,19 +13,19 @@ pub struct Left {
 }
 
 // "A length of 0 in the entry means that address isn't looked at and is kept as 0."
-fn kept_out(length: usize, out: usize) -> usize
-    ensures { λ r. ⌜ r ≡ keptAs length out ⌝ }
+pub fn kept_as(length: usize, address: usize) -> usize
+    ensures { λ r. ⌜ r ≡ keptAs length address ⌝ }
 {
     if length == 0 {
         return 0;
     }
-    out
+    address
 }
 
 fn entered(slot: usize, out: usize, length: usize) -> Running
     ensures { λ r. ⌜ r ≡ enteredRecord slot out length ⌝ }
 {
-    let kept = kept_out(length, out);
+    let kept = kept_as(length, out);
     Running {
         slot,
         out: kept,

@@ -1,7 +1,7 @@
 -- What a well-formed state gives to the events' code.
 use Prim.Native.Nat.{ℕ, _≤_, _<_}
 use native.Mathlib.Omega.{arith}
-use mathlib.Core.Path.{_≡_, refl, subst}
+use mathlib.Core.Path.{_≡_, refl, sym, ap, subst, _∙_}
 use mathlib.Core.Bool.{true, _&&_}
 use mathlib.Core.List.{[]}
 use lib.ListN.{length, getD}
@@ -15,16 +15,22 @@ use Rattle.fields.specs.Rules.{inCode}
 use Rattle.fields.proofs.Facts.{Kept, kept}
 use Rattle.state.specs.declared.Mode.{Mode}
 use Rattle.state.specs.declared.Mode.the-variants.{Legacy, Secure}
+use Rattle.state.specs.declared.Slot.{Slot}
 use Rattle.state.specs.declared.State.{State}
-use Rattle.state.specs.Zero.{noSlot, noPcr, zeroRunning}
+use Rattle.state.specs.Zero.{noPcr, zeroRunning}
 use Rattle.state.specs.Face.{faceOf, cardAt}
-use Rattle.state.proofs.Shape.{StateShape, DigestShape, slot-in, each-in}
+use Rattle.state.proofs.Shape.{DigestShape, SlotShape, each-in}
 use Rattle.state.proofs.Faces.{card-at}
 use Rattle.wellformed.specs.WellFormed.{modeRight, stateRight, wellFormed}
 use Rattle.wellformed.proofs.Facts.{Right, right-of, card-rules, card-free}
 use Rattle.wellformed.proofs.Runs.{Runs, legacy-hold}
 use Rattle.wellformed.proofs.States.{state-face, well-state, well-long}
 use Rattle.rules.proofs.Facts.{running}
+use Rattle.touch.specs.Carried.{IsSlot}
+
+-- the card of a slot that the code has is the face's
+pub card-is : (s : State) (k : ℕ) (x : Slot) → IsSlot s k x → x .card ≡ cardAt (faceOf s) k
+card-is s k x e = ap (λ (y : Slot). y .card) e ∙ sym (card-at (s .slots) k)
 
 module _ (s : State) (h : stateRight s ≡ true) where
   pub right : Right (faceOf s)
@@ -57,9 +63,9 @@ module _ (s : State) (h : stateRight s ≡ true) where
       let q = eqb-true (x .fields .r) 0 (and-l (eqb (x .fields .r) 0) _ (and-l (eqb (x .fields .r) 0 && eqb (x .fields .e) 0) _ (and-r (eqb (x .mark) 0) _ z))) in
       omega arith)
 
-  -- the same, as the code finds the slot
-  pub few-runs-in : (k : ℕ) → k < slotCount → getD (s .slots) k noSlot .card .fields .r ≤ 4
-  few-runs-in k l = subst (λ x. x .fields .r ≤ 4) (card-at (s .slots) k) (few-runs k l)
+  -- the same, of a slot that the code has
+  pub few-runs-in : (k : ℕ) (x : Slot) → k < slotCount → IsSlot s k x → x .card .fields .r ≤ 4
+  few-runs-in k x l e = rw (card-is s k x e) (few-runs k l)
 
 -- the memory's length
 pub ready : (s : State) (n : ℕ) → wellFormed s n ≡ true → stateRight s ≡ true
@@ -74,7 +80,5 @@ unfolding inCode
 code-alone x p = refl
 
 -- a µPCR has its length
-pub pcr-long : (s : State) → StateShape s → (k i : ℕ) → k < slotCount → i < pcrCount → length (getD (getD (s .slots) k noSlot .pcrs) i noPcr .bytes) ≡ digestSize
-pcr-long s g k i l m =
-    let x = slot-in s g k l in
-    each-in DigestShape noPcr (getD (s .slots) k noSlot .pcrs) (x .pcrs) i (rw (x .pcrs-long) m) .long
+pub pcr-long : (x : Slot) → SlotShape x → (i : ℕ) → i < pcrCount → length (getD (x .pcrs) i noPcr .bytes) ≡ digestSize
+pcr-long x g i m = each-in DigestShape noPcr (x .pcrs) (g .pcrs) i (rw (g .pcrs-long) m) .long

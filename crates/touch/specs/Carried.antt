@@ -3,11 +3,14 @@ use Prim.Native.Nat.{ℕ}
 use mathlib.Core.Path.{_≡_}
 use mathlib.Core.Bool.{Bool}
 use mathlib.Core.List.{List}
-use lib.ListN.{length}
+use lib.ListN.{length, getD}
 use Rattle.geometry.specs.Geometry.{pageOf}
 use Rattle.sha1.specs.declared.Digest.{Digest}
 use Rattle.state.specs.declared.Mode.{Mode}
+use Rattle.state.specs.declared.Mode.the-variants.{Secure}
+use Rattle.state.specs.declared.Slot.{Slot}
 use Rattle.state.specs.declared.State.{State}
+use Rattle.state.specs.Zero.{noSlot}
 use Rattle.state.specs.Face.{Face, faceOf, pcrsOf, stateOf}
 use Rattle.events.specs.declared.Answer.{Answer}
 use Rattle.rules.specs.Plan.{Plan}
@@ -15,6 +18,19 @@ use Rattle.rules.specs.Tests.{Access, mayReach}
 use Rattle.rules.specs.Decide.{readRule, writeRule, pcrRule}
 use Rattle.rules.specs.Act.{fetched, stored, sealed}
 use Rattle.touch.specs.declared.Stepped.{Stepped}
+
+-- ---- what the code has of the state: the owner of a page, slot k, the slot that runs
+
+abbrev pub Owned : State → ℕ → ℕ → Type 0
+Owned s p v = v ≡ getD (s .owner) p 0
+
+abbrev pub IsSlot : State → ℕ → Slot → Type 0
+IsSlot s k x = x ≡ getD (s .slots) k noSlot
+
+abbrev pub Runs : State → Slot → Type 0
+Runs s x = (k : ℕ) → s .mode ≡ Secure k → IsSlot s k x
+
+-- ---- what it did
 
 -- it answered as planned, and filled the buffer as planned
 abbrev pub Fills : Plan → List (List Digest) → List ℕ → List ℕ → Answer → List ℕ → Type 0

@@ -5,14 +5,13 @@ use geometry::Geometry;
 use state::State;
 ghost use mathlib.Core.Path.{_≡_};
 ghost use mathlib.Core.Bool.{true};
-ghost use Prim.Native.Nat.{ℕ};
 ghost use lib.ListN.{length};
-ghost use Rattle.geometry.specs.Geometry.{startOf};
+ghost use Rattle.geometry.specs.Geometry.{pageOf, startOf};
 ghost use Rattle.state.specs.Face.{faceOf, pcrsOf};
 ghost use Rattle.wellformed.specs.WellFormed.{wellFormed};
 ghost use Rattle.rules.specs.Tests.{read, device};
 ghost use Rattle.rules.specs.Decide.{readRule};
-ghost use Rattle.touch.specs.Carried.{Fills, ReadBy};
+ghost use Rattle.touch.specs.Carried.{Owned, Fills, ReadBy};
 
 // A read, where it is known whether its page may be reached.
 fn give(
@@ -39,18 +38,25 @@ fn give(
     Answer::Filled(n)
 }
 
-pub fn read(s: State, memory: &[u8], buffer: &mut [u8], address: usize, n: usize) -> Answer
-    requires { ⌜ wellFormed s (length (now memory)) ≡ true ⌝ }
+pub fn read(s: State, v: u8, memory: &[u8], buffer: &mut [u8], address: usize, n: usize) -> Answer
+    requires { ⌜ (wellFormed s (length (now memory)) ≡ true) × Owned s (pageOf address) v ⌝ }
     ensures { λ r. ⌜ Fills (readRule (s .mode) (faceOf s) read (length (now (buffer .entry))) address n) (pcrsOf s) (now (memory .entry)) (now (buffer .entry)) r (now (buffer .exit)) ⌝ }
 {
-    let reached = pages::may_read(s, address / Geometry::PAGE);
+    let reached = pages::may_read(s, v, address / Geometry::PAGE);
     give(s.pages, reached, memory, buffer, address, n)
 }
 
-pub fn device_read(s: State, memory: &[u8], buffer: &mut [u8], address: usize, n: usize) -> Answer
-    requires { ⌜ wellFormed s (length (now memory)) ≡ true ⌝ }
+pub fn device_read(
+    s: State,
+    v: u8,
+    memory: &[u8],
+    buffer: &mut [u8],
+    address: usize,
+    n: usize,
+) -> Answer
+    requires { ⌜ (wellFormed s (length (now memory)) ≡ true) × Owned s (pageOf address) v ⌝ }
     ensures { λ r. ⌜ Fills (readRule (s .mode) (faceOf s) device (length (now (buffer .entry))) address n) (pcrsOf s) (now (memory .entry)) (now (buffer .entry)) r (now (buffer .exit)) ⌝ }
 {
-    let reached = pages::device_may(s, address / Geometry::PAGE);
+    let reached = pages::device_may(s, v, address / Geometry::PAGE);
     give(s.pages, reached, memory, buffer, address, n)
 }

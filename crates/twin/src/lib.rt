@@ -61,7 +61,8 @@ fn mode_of(m: usize) -> Mode
     }
 }
 
-fn number_of(m: Mode) -> usize
+// A mode's number.
+pub fn number_of(m: Mode) -> usize
     ensures { λ r. ⌜ r ≡ numberOf m ⌝ }
 {
     match m {

@@ -2,12 +2,11 @@
 -- the state; answer, state after the change, memory and buffer are one, and not the change that comes to them.
 use Rattle.switch.proofs.monitor_enter as switch-monitor-enter
 use Rattle.switch.proofs.monitor_leave as switch-monitor-leave
+use Rattle.switch.proofs.kept_as as switch-kept-as
 use Rattle.switch.proofs.entering as switch-entering
 use Rattle.switch.proofs.leaving as switch-leaving
 use Rattle.touch.proofs.pages.is_open as touch-is-open
 use Rattle.touch.proofs.pages.is_own as touch-is-own
-use Rattle.touch.proofs.pages.is_own_of as touch-is-own-of
-use Rattle.touch.proofs.pages.slot_at as touch-slot-at
 use Rattle.touch.proofs.pages.in_code_of as touch-in-code-of
 use Rattle.touch.proofs.pages.may_read as touch-may-read
 use Rattle.touch.proofs.pages.may_write as touch-may-write
@@ -22,6 +21,7 @@ use Rattle.change.proofs.kept as change-kept
 use Rattle.change.proofs.extending as change-extending
 use Rattle.change.proofs.enrolling as change-enrolling
 use Rattle.change.proofs.moves as change-moves
+use Rattle.change.proofs.steering as change-steering
 use Rattle.change.proofs.changed as change-changed
 use Rattle.release.proofs.jump.jump as release-jump
 use Rattle.release.proofs.release.release as release-release
@@ -30,13 +30,13 @@ use Rattle.call.proofs.call.call as call-call
 use Rattle.call.proofs.places.slot_for as call-slot-for
 use Rattle.call.proofs.places.param_of as call-param-of
 use Rattle.call.proofs.places.param_start as call-param-start
-use Rattle.call.proofs.places.kept_as as call-kept-as
 use Rattle.call.proofs.return_.return_ as call-return
 use Rattle.enroll.proofs.free.all_open as enroll-all-open
 use Rattle.enroll.proofs.free.free_slot as enroll-free-slot
 use Rattle.enroll.proofs.measure.measured as enroll-measured
 use Rattle.enroll.proofs.register.register as enroll-register
 use Rattle.extend.proofs.extend.extend as extend-extend
+use Rattle.monitor.proofs.looked as monitor-looked
 use Rattle.monitor.proofs.decided as monitor-decided
 use Rattle.monitor.proofs.step as monitor-step
 use borrow.Fn.World.{w₀}
@@ -58,12 +58,11 @@ switch-monitor-leave-says κs a z e = told (switch-monitor-leave.clauses (w₀ .
 pub record Events : Type 0 where
   pub switch-monitor-enter-one : OneOutcome switch-monitor-enter.ended switch-monitor-enter-says
   pub switch-monitor-leave-one : OneOutcome switch-monitor-leave.ended switch-monitor-leave-says
+  pub switch-kept-as-one : OneOutcome switch-kept-as.ended switch-kept-as.Reads.Learnt
   pub switch-entering-one : OneOutcome switch-entering.ended switch-entering.Reads.Learnt
   pub switch-leaving-one : OneOutcome switch-leaving.ended switch-leaving.Reads.Learnt
   pub touch-is-open-one : OneOutcome touch-is-open.ended touch-is-open.Reads.Learnt
   pub touch-is-own-one : OneOutcome touch-is-own.ended touch-is-own.Reads.Learnt
-  pub touch-is-own-of-one : OneOutcome touch-is-own-of.ended touch-is-own-of.Reads.Learnt
-  pub touch-slot-at-one : OneOutcome touch-slot-at.ended touch-slot-at.Reads.Learnt
   pub touch-in-code-of-one : OneOutcome touch-in-code-of.ended touch-in-code-of.Reads.Learnt
   pub touch-may-read-one : OneOutcome touch-may-read.ended touch-may-read.Reads.Learnt
   pub touch-may-write-one : OneOutcome touch-may-write.ended touch-may-write.Reads.Learnt
@@ -78,20 +77,21 @@ pub record Events : Type 0 where
   pub change-extending-one : OneOutcome change-extending.ended change-extending.Reads.Learnt
   pub change-enrolling-one : OneOutcome change-enrolling.ended change-enrolling.Reads.Learnt
   pub change-moves-one : OneOutcome change-moves.ended change-moves.Reads.Learnt
+  pub change-steering-one : OneOutcome change-steering.ended change-steering.Reads.Learnt
   pub change-changed-one : OneOutcome change-changed.ended change-changed.Reads.Learnt
-  pub release-jump-one : OneView release-jump.ended release-jump.Reads.Learnt {A = Stepped × List ℕ} (λ κs a z w. (settled (a .0) z, w .1 .0))
+  pub release-jump-one : OneView release-jump.ended release-jump.Reads.Learnt {A = Stepped × List ℕ} (λ κs a z w. (settled (a .0) z, w .1 .1 .1 .0))
   pub release-release-one : OneOutcome release-release.ended release-release.Reads.Learnt
-  pub release-unregister-one : OneView release-unregister.ended release-unregister.Reads.Learnt {A = Stepped × List ℕ} (λ κs a z w. (settled (a .0) z, w .1 .0))
-  pub call-call-one : OneView call-call.ended call-call.Reads.Learnt {A = Stepped × List ℕ} (λ κs a z w. (settled (a .0) z, w .1 .0))
+  pub release-unregister-one : OneView release-unregister.ended release-unregister.Reads.Learnt {A = Stepped × List ℕ} (λ κs a z w. (settled (a .0) z, w .1 .1 .0))
+  pub call-call-one : OneView call-call.ended call-call.Reads.Learnt {A = Stepped × List ℕ} (λ κs a z w. (settled (a .0) z, w .1 .1 .1 .0))
   pub call-slot-for-one : OneOutcome call-slot-for.ended call-slot-for.Reads.Learnt
   pub call-param-of-one : OneOutcome call-param-of.ended call-param-of.Reads.Learnt
   pub call-param-start-one : OneOutcome call-param-start.ended call-param-start.Reads.Learnt
-  pub call-kept-as-one : OneOutcome call-kept-as.ended call-kept-as.Reads.Learnt
-  pub call-return-one : OneView call-return.ended call-return.Reads.Learnt {A = Stepped × List ℕ} (λ κs a z w. (settled (a .0) z, w .1 .0))
+  pub call-return-one : OneView call-return.ended call-return.Reads.Learnt {A = Stepped × List ℕ} (λ κs a z w. (settled (a .0) z, w .1 .1 .0))
   pub enroll-all-open-one : OneOutcome enroll-all-open.ended enroll-all-open.Reads.Learnt
   pub enroll-free-slot-one : OneOutcome enroll-free-slot.ended enroll-free-slot.Reads.Learnt
   pub enroll-measured-one : OneOutcome enroll-measured.ended enroll-measured.Reads.Learnt
   pub enroll-register-one : OneView enroll-register.ended enroll-register.Reads.Learnt (λ κs a z w. settled (a .0) z)
   pub extend-extend-one : OneView extend-extend.ended extend-extend.Reads.Learnt (λ κs a z w. settled (a .0) z)
-  pub monitor-decided-one : OneView monitor-decided.ended monitor-decided.Reads.Learnt (λ κs a z w. outOf (settled (a .1 .1 .0) z) (w .1 .1 .1 .0) (w .1 .1 .1 .1 .0))
+  pub monitor-looked-one : OneOutcome monitor-looked.ended monitor-looked.Reads.Learnt
+  pub monitor-decided-one : OneView monitor-decided.ended monitor-decided.Reads.Learnt (λ κs a z w. outOf (settled (a .1 .1 .1 .0) z) (w .1 .1 .1 .1 .0) (w .1 .1 .1 .1 .1 .0))
   pub monitor-step-one : OneOutcome monitor-step.ended monitor-step.Reads.Learnt

@@ -42,6 +42,8 @@ use Rattle.state.proofs.Slot.cleared as state-cleared
 use Rattle.state.proofs.Slot.extended as state-extended
 use Rattle.state.proofs.Slot.entry_found as state-entry-found
 use Rattle.wellformed.proofs.sizes_right as wellformed-sizes-right
+use Rattle.wellformed.proofs.unseen as wellformed-unseen
+use Rattle.wellformed.proofs.seen as wellformed-seen
 use Rattle.wellformed.proofs.state_right as wellformed-state-right
 use Rattle.wellformed.proofs.well_formed as wellformed-well-formed
 use Rattle.start.proofs.start as start-start
@@ -89,6 +91,8 @@ pub record Parts : Type 0 where
   pub state-extended-one : OneOutcome state-extended.ended state-extended.Reads.Learnt
   pub state-entry-found-one : OneOutcome state-entry-found.ended state-entry-found.Reads.Learnt
   pub wellformed-sizes-right-one : OneOutcome wellformed-sizes-right.ended wellformed-sizes-right.Reads.Learnt
+  pub wellformed-unseen-one : OneOutcome wellformed-unseen.ended wellformed-unseen.Reads.Learnt
+  pub wellformed-seen-one : OneOutcome wellformed-seen.ended wellformed-seen.Reads.Learnt
   pub wellformed-state-right-one : OneOutcome wellformed-state-right.ended wellformed-state-right.Reads.Learnt
   pub wellformed-well-formed-one : OneOutcome wellformed-well-formed.ended wellformed-well-formed.Reads.Learnt
   pub start-start-one : OneOutcome start-start.ended start-start.Reads.Learnt

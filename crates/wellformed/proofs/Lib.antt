@@ -6,3 +6,4 @@ pub mod States
 pub mod Pages
 pub mod Slots
 pub mod Whole
+pub mod Sights

@@ -4,6 +4,7 @@ ghost use mathlib.Core.Path.{_≡_};
 ghost use mathlib.Core.Bool.{_&&_};
 ghost use mathlib.Core.List.{[]};
 ghost use Prim.Native.Nat.{_≤_};
+ghost use lib.ListN.{getD};
 ghost use lib.Dec.{eqb};
 ghost use Rattle.lists.specs.Below.{all-below, any-below};
 ghost use Rattle.geometry.specs.Geometry.{mostPages, digestSize};
@@ -12,6 +13,7 @@ ghost use Rattle.fields.specs.Rules.{keepsRules};
 ghost use Rattle.fields.specs.Pages.{pagesUnder};
 ghost use Rattle.wellformed.specs.WellFormed.{sizesRight, fieldsZero, byteZeroAt, pcrsZero, runningZero, outputAt, stateRight, wellFormed};
 ghost use Rattle.wellformed.specs.Tests.{slotRight, outTest, runningTest, modeTest};
+ghost use Rattle.wellformed.specs.Seen.{nothingSeen, seenOf};
 use fields::Entry;
 use fields::Fields;
 use fields::Run;
@@ -173,12 +175,43 @@ fn mode_right(
     }
 }
 
-// ---- the whole: `bad` stays zero while each slot's pages are its own
-pub fn state_right(s: State) -> bool
-    ensures { λ r. ⌜ r ≡ stateRight s ⌝ }
+// ---- the whole
+// What an event looks at, handed out by the test so that the state is copied once: a slot, and the owners of two pages.
+pub struct Sight {
+    pub right: bool,
+    pub slot: Slot,
+    pub page: u8,
+    pub other: u8,
+}
+
+// Of a state that is not well formed nothing is told.
+pub fn unseen() -> Sight
+    ensures { λ r. ⌜ r ≡ nothingSeen ⌝ }
+{
+    let zero = Slot::zero();
+    Sight {
+        right: false,
+        slot: zero,
+        page: 0,
+        other: 0,
+    }
+}
+
+fn owner_of(owner: &[u8], page: usize) -> u8
+    ensures { λ r. ⌜ r ≡ getD (now (owner .entry)) page 0 ⌝ }
+{
+    if page < owner.len() {
+        return owner[page];
+    }
+    0
+}
+
+// The test, and slot n (counted round from 8 on). `bad` stays zero while each slot's pages are its own.
+pub fn seen(s: State, n: usize, page: usize, other: usize) -> Sight
+    ensures { λ r. ⌜ r ≡ seenOf s n page other ⌝ }
 {
     if !sizes_right(s.pages, s.kept) {
-        return false;
+        return unseen();
     }
     let top = s.pages - s.kept;
     let mut t = [0u8; Geometry::MOST_PAGES];
@@ -188,7 +221,7 @@ pub fn state_right(s: State) -> bool
     while k < Geometry::SLOTS {
         let x = s.slots[k];
         if !slot_right(x, top) {
-            return false;
+            return unseen();
         }
         let f = x.card.fields;
         let runs = f.runs;
@@ -204,7 +237,26 @@ pub fn state_right(s: State) -> bool
     let card = y.card;
     let mode = s.mode;
     let right = mode_right(mode, running, card, &s.owner, s.pages);
-    (bad == 0) & right
+    if !((bad == 0) & right) {
+        return unseen();
+    }
+    let i = n % Geometry::SLOTS;
+    let slot = s.slots[i];
+    let first = owner_of(&s.owner, page);
+    let second = owner_of(&s.owner, other);
+    Sight {
+        right: true,
+        slot: slot,
+        page: first,
+        other: second,
+    }
+}
+
+pub fn state_right(s: State) -> bool
+    ensures { λ r. ⌜ r ≡ stateRight s ⌝ }
+{
+    let x = seen(s, 0, 0, 0);
+    x.right
 }
 
 pub fn well_formed(s: State, length: usize) -> bool

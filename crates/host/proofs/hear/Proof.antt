@@ -1,8 +1,9 @@
 use Rattle.twin.specs.declared.Asked.the-variants.{Unknown}
 use Rattle.twin.specs.Asked.{askedOf}
 use Rattle.events.specs.declared.Answer.the-variants as answer
+use Rattle.state.specs.Zero.{zeroRunning}
 use mathlib.Core.Path.{_≡_, sym, _∙_}
-use Rattle.host.proofs.Carried.{mode-fits, carried, not-carried}
+use Rattle.host.proofs.Carried.{looked-so, mode-fits, carried, not-carried}
 use borrow.Author.Needs.{needs}
 use Rattle.host.proofs.hear.Statement.{statement}
 use Rattle.host.proofs.hear.Tie as tie
@@ -17,10 +18,16 @@ opened-requires : tie.Need-opened-requires
 opened-requires c κs = search needs
 
 decided-requires : tie.Need-decided-requires
-decided-requires c κs = search needs
+decided-requires c κs = let a = c .before .before .before .before .before .before .before .before .before .before .args in c .before .before .before .before .before .before .before .before .before .before .pre ∙ sym (looked-so (a .m) (a .q) _ _ (sym (c .before .before .before .before .a .given .1) ∙ c .before .before .before .before .before .before .event-asked .ensures) (c .before .before .opened .ensures))
 
 replied-requires : tie.Need-replied-requires
 replied-requires c κs = search needs
+
+steering-requires : tie.Need-steering-requires
+steering-requires c κs = search needs
+
+number-of-requires : tie.Need-number-of-requires
+number-of-requires c κs = search needs
 
 moves-requires : tie.Need-moves-requires
 moves-requires c κs = search needs
@@ -42,19 +49,15 @@ same-length-2 c = search needs
 
 returns : tie.Need-returns
 returns c =
-    let d = c .before .before .before .before .before .before in
-    let k = d .before .before .before .before .before in
-    let z = k .before .before .before .before .before .before in
-    let a = z .args in
-    carried (a .m) (a .q) (a .payload .now) (a .memory .now) (a .buffer .now) (d .decided .last .1 .1 .1 .0) (d .decided .last .1 .1 .1 .1 .0) (k .a .given .0 .0) (d .before .before .before .opened .result) (d .decided .result) (c .before .replied .result) (c .moves .result)
-    (mode-fits (a .m) _ (z .good .0)) (sym (k .a .given .1) ∙ k .before .before .event-asked .ensures) (d .before .before .before .opened .ensures) (d .decided .ensures) (c .before .replied .ensures) (c .moves .ensures)
+    let a = c .before .before .before .before .before .before .before .before .before .before .before .before .before .before .before .before .before .before .before .before .args in
+    carried (a .m) (a .q) (a .payload .now) (a .memory .now) (a .buffer .now) (c .before .before .before .before .before .before .before .before .before .decided .last .1 .1 .1 .1 .0) (c .before .before .before .before .before .before .before .before .before .decided .last .1 .1 .1 .1 .1 .0) (c .before .before .before .before .before .before .before .before .before .before .before .before .before .before .a .given .0 .0) (c .before .before .before .before .before .before .before .before .before .before .before .before .opened .result) (c .before .before .before .before .before .before .before .before .before .decided .result) (c .before .before .before .before .replied .result) (c .before .before .before .steering .result) (c .before .before .number-of .result) (c .moves .result)
+    (mode-fits (a .m) _ (c .before .before .before .before .before .before .before .before .before .before .before .before .before .before .before .before .before .before .before .before .good .0)) (sym (c .before .before .before .before .before .before .before .before .before .before .before .before .before .before .a .given .1) ∙ c .before .before .before .before .before .before .before .before .before .before .before .before .before .before .before .before .event-asked .ensures) (c .before .before .before .before .before .before .before .before .before .before .before .before .opened .ensures) (c .before .before .before .before .before .before .before .before .before .decided .ensures) (c .before .before .before .before .replied .ensures) (c .before .before .before .steering .ensures) (c .before .before .number-of .ensures) (c .moves .ensures)
 
 returns-2 : tie.Need-returns-2
 returns-2 c =
-    let z = c .before .before .before .before .before .before .before .before in
-    let a = z .args in
+    let a = c .before .before .before .before .before .before .before .before .args in
     let e : Unknown ≡ askedOf (a .q) = cc in
-    not-carried (a .m) (a .q) (a .payload .now) (a .memory .now) (a .buffer .now) (c .before .not-asked .result) answer.Done (c .kept .result) (mode-fits (a .m) _ (z .good .0)) e (c .before .not-asked .ensures) (c .kept .ensures)
+    not-carried (a .m) (a .q) (a .payload .now) (a .memory .now) (a .buffer .now) (c .before .not-asked .result) answer.Done (c .kept .result) 0 zeroRunning (mode-fits (a .m) _ (c .before .before .before .before .before .before .before .before .good .0)) e (c .before .not-asked .ensures) (c .kept .ensures)
 
 pub hear-spec : {M : Type 1} → statement M
 hear-spec =
@@ -65,6 +68,8 @@ hear-spec =
     opened-requires
     decided-requires
     replied-requires
+    steering-requires
+    number-of-requires
     moves-requires
     enum-told
     not-asked-requires

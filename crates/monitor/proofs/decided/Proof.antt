@@ -1,12 +1,14 @@
-use Rattle.monitor.proofs.Outs.{of-refuse, step-1, step-on, step-as, rule-2}
-use Rattle.monitor.proofs.Ends.{kept-comes}
+use Rattle.monitor.proofs.Outs.{of-refuse, step-on, rule-2}
+use Rattle.monitor.proofs.Ends.{kept-comes, refuses-1}
+use Rattle.monitor.proofs.Sights.{not-right, not-long, well, right-as, sees}
+use Rattle.touch.proofs.Ready.{few-pages}
 use Rattle.events.specs.declared.Answer.the-variants as answer
 use Rattle.state.proofs.Shaped.{state-shape}
 use Rattle.state.specs.Face.{faceOf}
 use Rattle.manifest.specs.Reader.{readManifest}
 use lib.ListN.{length}
 use borrow.Author.Tests.{not-true, not-false}
-use mathlib.Core.Path.{refl, sym, _∙_}
+use mathlib.Core.Path.{sym, _∙_}
 use borrow.Author.Needs.{needs}
 use Rattle.monitor.proofs.decided.Statement.{statement}
 use Rattle.monitor.proofs.decided.Tie as tie
@@ -15,33 +17,46 @@ returns : tie.Need-returns
 returns c =
     let a = c .before .before .before .before .before .before .args in
     let s = a .s in
-    kept-comes s (answer.Refused 1) _ (c .kept .ensures)
-    (of-refuse s (state-shape s _ (c .before .before .before .before .before .before .good .1 .1 .0) .slots-long) 1 (a .payload .now) (a .buffer .now) (a .memory .now) refl
-    ∙ sym (step-as s (a .memory .now) (a .payload .now) (a .buffer .now) (a .event) (step-1 s (a .memory .now) (a .payload .now) (a .buffer .now) (a .event) (sym (c .before .before .well-formed .ensures) ∙ not-true _ (c .before .if1 .taken)))))
+    refuses-1 s (state-shape s _ (c .before .before .before .before .before .before .good .1 .1 .1 .0) .slots-long) (a .payload .now) (a .buffer .now) (a .memory .now) (a .event) _ (c .kept .ensures)
+    (not-right s _ (sym (right-as s (a .event) (a .x) (c .before .before .before .before .before .before .pre)) ∙ not-true _ (c .before .if1 .taken)))
+
+start-of-requires : tie.Need-start-of-requires
+start-of-requires c κs = let a = c .before .before .before .before .before .args in few-pages (a .s) (sym (right-as (a .s) (a .event) (a .x) (c .before .before .before .before .before .pre)) ∙ not-false _ (c .if1 .left))
 
 returns-2 : tie.Need-returns-2
 returns-2 c =
     let a = c .before .before .before .before .before .before .before .before .args in
     let s = a .s in
-    kept-comes s (answer.Refused 2) _ (c .kept2 .ensures)
-    (of-refuse s (state-shape s _ (c .before .before .before .before .before .before .before .before .good .1 .1 .0) .slots-long) 2 (a .payload .now) (a .buffer .now) (a .memory .now)
-    (rule-2 (faceOf s) (s .mode) (length (a .buffer .now)) (length (a .payload .now)) (readManifest (a .payload .now)) (a .event) (sym (c .before .before .allowed .ensures) ∙ not-true _ (c .before .if2 .taken)))
-    ∙ sym (step-on s (a .memory .now) (a .payload .now) (a .buffer .now) (a .event) (sym (c .before .before .before .before .well-formed .ensures) ∙ not-false _ (c .before .before .before .if1 .left))))
-
-dispatch-requires : tie.Need-dispatch-requires
-dispatch-requires c κs = (sym (c .before .before .before .before .before .well-formed .ensures) ∙ not-false _ (c .before .before .before .before .if1 .left), sym (c .before .before .before .allowed .ensures) ∙ not-false _ (c .before .before .if2 .left))
+    refuses-1 s (state-shape s _ (c .before .before .before .before .before .before .before .before .good .1 .1 .1 .0) .slots-long) (a .payload .now) (a .buffer .now) (a .memory .now) (a .event) _ (c .kept2 .ensures)
+    (not-long s _ (sym (right-as s (a .event) (a .x) (c .before .before .before .before .before .before .before .before .pre)) ∙ not-false _ (c .before .before .before .if1 .left)) (λ e. c .before .if2 .taken (e ∙ sym (c .before .before .start-of .ensures))))
 
 returns-3 : tie.Need-returns-3
 returns-3 c =
-    let a = c .before .before .before .before .before .before .before .before .before .before .before .before .before .before .args in
+    let a = c .before .before .before .before .before .before .before .before .before .before .args in
+    let s = a .s in
+    kept-comes s (answer.Refused 2) _ (c .kept3 .ensures)
+    (of-refuse s (state-shape s _ (c .before .before .before .before .before .before .before .before .before .before .good .1 .1 .1 .0) .slots-long) 2 (a .payload .now) (a .buffer .now) (a .memory .now)
+    (rule-2 (faceOf s) (s .mode) (length (a .buffer .now)) (length (a .payload .now)) (readManifest (a .payload .now)) (a .event) (sym (c .before .before .allowed .ensures) ∙ not-true _ (c .before .if3 .taken)))
+    ∙ sym (step-on s (a .memory .now) (a .payload .now) (a .buffer .now) (a .event) (well s _ (sym (right-as s (a .event) (a .x) (c .before .before .before .before .before .before .before .before .before .before .pre)) ∙ not-false _ (c .before .before .before .before .before .if1 .left)) (c .before .before .before .if2 .left ∙ c .before .before .before .before .start-of .ensures))))
+
+dispatch-requires : tie.Need-dispatch-requires
+dispatch-requires c κs =
+    let a = c .before .before .before .before .before .before .before .before .before .before .before .args in
+    let s = a .s in
+    let r = sym (right-as s (a .event) (a .x) (c .before .before .before .before .before .before .before .before .before .before .before .pre)) ∙ not-false _ (c .before .before .before .before .before .before .if1 .left) in
+    (well s _ r (c .before .before .before .before .if2 .left ∙ c .before .before .before .before .before .start-of .ensures), (sym (c .before .before .before .allowed .ensures) ∙ not-false _ (c .before .before .if3 .left), sees s (a .event) (a .x) (c .before .before .before .before .before .before .before .before .before .before .before .pre) r))
+
+returns-4 : tie.Need-returns-4
+returns-4 c =
+    let a = c .before .before .before .before .before .before .before .before .before .before .before .before .before .before .before .before .args in
     let r = c .before .before .before .before .dispatch .ensures in
     record {
-      out = r .out ∙ sym (step-on (a .s) (a .memory .now) (a .payload .now) (a .buffer .now) (a .event) (sym (c .before .before .before .before .before .before .before .before .before .before .well-formed .ensures) ∙ not-false _ (c .before .before .before .before .before .before .before .before .before .if1 .left)));
+      out = r .out ∙ sym (step-on (a .s) (a .memory .now) (a .payload .now) (a .buffer .now) (a .event) (well (a .s) _ (sym (right-as (a .s) (a .event) (a .x) (c .before .before .before .before .before .before .before .before .before .before .before .before .before .before .before .before .pre)) ∙ not-false _ (c .before .before .before .before .before .before .before .before .before .before .before .if1 .left)) (c .before .before .before .before .before .before .before .before .before .if2 .left ∙ c .before .before .before .before .before .before .before .before .before .before .start-of .ensures)));
       fits = r .fits;
     }
 
-well-formed-requires : tie.Need-well-formed-requires
-well-formed-requires c κs = search needs
+kept-requires-3 : tie.Need-kept-requires-3
+kept-requires-3 c κs = search needs
 
 kept-requires : tie.Need-kept-requires
 kept-requires c κs = search needs
@@ -62,13 +77,15 @@ pub decided-spec : {M : Type 1} → statement M
 decided-spec =
     tie.close
     (tie.spec
-    well-formed-requires
     kept-requires
     returns
-    allowed-requires
+    start-of-requires
     kept-requires-2
     returns-2
+    allowed-requires
+    kept-requires-3
+    returns-3
     dispatch-requires
     same-length
     same-length-2
-    returns-3)
+    returns-4)

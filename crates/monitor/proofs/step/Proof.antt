@@ -10,11 +10,14 @@ changed-requires c κs = c .before .before .before .before .decided .ensures .fi
 
 returns : tie.Need-returns
 returns c =
-    ap (λ (t : State). outOf (record { answer = c .before .before .before .before .before .decided .result .answer; state = t }) (c .before .before .before .before .before .decided .last .1 .1 .1 .0) (c .before .before .before .before .before .decided .last .1 .1 .1 .1 .0)) (c .changed .ensures)
+    ap (λ (t : State). outOf (record { answer = c .before .before .before .before .before .decided .result .answer; state = t }) (c .before .before .before .before .before .decided .last .1 .1 .1 .1 .0) (c .before .before .before .before .before .decided .last .1 .1 .1 .1 .1 .0)) (c .changed .ensures)
     ∙ c .before .before .before .before .before .decided .ensures .out
 
 decided-requires : tie.Need-decided-requires
-decided-requires c κs = search needs
+decided-requires c κs = c .before .before .looked .ensures
+
+looked-requires : tie.Need-looked-requires
+looked-requires c κs = search needs
 
 same-length : tie.Need-same-length
 same-length c = search needs
@@ -26,6 +29,7 @@ pub step-spec : {M : Type 1} → statement M
 step-spec =
     tie.close
     (tie.spec
+    looked-requires
     decided-requires
     changed-requires
     same-length

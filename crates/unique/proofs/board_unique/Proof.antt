@@ -6,6 +6,7 @@ use Rattle.unique.proofs.board_unique.Tie as tie
 
 returns : tie.Need-returns
 returns c = record {
+  twin-number-of-one = λ κs a z z′ w w′. result;
   twin-opened-one = λ κs a z z′ w w′. result;
   twin-shut-one = λ κs a z z′ w w′. result;
   twin-event-asked-one = λ κs a z z′ w w′. result;

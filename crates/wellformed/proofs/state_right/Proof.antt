@@ -1,141 +1,18 @@
-use Prim.Native.Nat.{_≤_, _-_}
-use mathlib.Core.Path.{_≡_, sym, _∙_}
-use mathlib.Core.Bool.{true, false}
-use borrow.Author.Tests.{not-true, not-false}
-use Rattle.geometry.specs.Geometry.{slotCount}
-use Rattle.painting.specs.Painting.{RunsFit}
-use Rattle.wellformed.specs.WellFormed.{sizesRight}
-use Rattle.wellformed.specs.Tests.{slotRightAt}
-use Rattle.wellformed.proofs.Facts.{Sizes, sizes-hold}
-use Rattle.wellformed.proofs.Slots.{state-parts}
-use Rattle.wellformed.proofs.Whole.{cardIn, Gone, gone-none, gone-wrong, gone-fit, gone-step, gone-few, gone-end}
+use mathlib.Core.Path.{ap, _∙_}
+use Rattle.wellformed.specs.declared.Sight.{Sight}
+use Rattle.wellformed.proofs.Sights.{seen-right}
 use borrow.Author.Needs.{needs}
-use native.Mathlib.Omega.{arith}
 use Rattle.wellformed.proofs.state_right.Statement.{statement}
 use Rattle.wellformed.proofs.state_right.Tie as tie
 use Rattle.wellformed.proofs.state_right.Reads as reads
 use Rattle.wellformed.proofs.state_right.Lts as lts
-use Rattle.painting.proofs.differ.Reads as differ-reads
-use Rattle.painting.proofs.paint.Reads as paint-reads
-use Rattle.painting.proofs.paint_runs.Reads as paint-runs-reads
-use Rattle.painting.proofs.runs_off.Reads as runs-off-reads
-use Rattle.wellformed.proofs.mode_right.Reads as mode-right-reads
-use Rattle.wellformed.proofs.sizes_right.Reads as sizes-right-reads
-use Rattle.wellformed.proofs.slot_right.Reads as slot-right-reads
+use Rattle.wellformed.proofs.seen.Reads as seen-reads
 
-abbrev Inv-loop : tie.InvT-loop
-Inv-loop s top t₀ bad₀ k₀ t bad k = (k ≤ slotCount) × Gone s t bad k
+seen-requires : tie.Need-seen-requires
+seen-requires c κs = search needs
 
-abbrev μ-loop : tie.MeasureT-loop
-μ-loop s top t₀ bad₀ k₀ t bad k = slotCount - k
-
-sizes-right-requires : tie.Need-sizes-right-requires Inv-loop μ-loop
-sizes-right-requires c κs = search needs
-
-returns : tie.Need-returns Inv-loop μ-loop
-returns c =
-    let s = c .before .before .args .t1 in
-    let t : sizesRight (s .pages) (s .kept) ≡ false = sym (c .before .sizes-right .ensures) ∙ not-true _ (c .if1 .taken) in
-    rw (state-parts s, t)
-
-sizes : (c : tie.Else1 Inv-loop μ-loop) → Sizes (c .before .before .args .t1 .pages) (c .before .before .args .t1 .kept)
-sizes c = sizes-hold _ _ (sym (c .before .sizes-right .ensures) ∙ not-false _ (c .if1 .left))
-
-sub-top : tie.Need-sub-top Inv-loop μ-loop
-sub-top c = omega (arith, sizes c .left)
-
-paint-requires : tie.Need-paint-requires Inv-loop μ-loop
-paint-requires c κs = omega (arith, sizes (c .before) .most, sizes (c .before) .left)
-
-loop-holds : tie.Need-loop-holds Inv-loop μ-loop
-loop-holds c = (omega arith, gone-none _ _ (sizes (c .before .before)) (c .paint .ensures))
-
-mul-x : tie.Need-mul-x Inv-loop μ-loop
-mul-x c = omega arith
-
-element-copy-out-x : tie.Need-element-copy-out-x Inv-loop μ-loop
-element-copy-out-x c = omega arith
-
-slot-right-requires : tie.Need-slot-right-requires Inv-loop μ-loop
-slot-right-requires c κs = search needs
-
-returns-2 : tie.Need-returns-2 Inv-loop μ-loop
-returns-2 c = gone-wrong _ (c .before .before .before .before .loop .k) (omega arith) (sym (c .before .slot-right .ensures) ∙ not-true _ (c .if2 .taken))
-
-slot : (c : tie.Else2 Inv-loop μ-loop) → slotRightAt (c .before .before .before .before .before .before .before .before .before .args .t1) (c .before .before .before .before .loop .k) ≡ true
-slot c = sym (c .before .slot-right .ensures) ∙ not-false _ (c .if2 .left)
-
-fit : (c : tie.Else2 Inv-loop μ-loop) → RunsFit (cardIn (c .before .before .before .before .before .before .before .before .before .args .t1) (c .before .before .before .before .loop .k) .fields .r) (cardIn (c .before .before .before .before .before .before .before .before .before .args .t1) (c .before .before .before .before .loop .k) .fields .runs)
-fit c = gone-fit _ _ _ _ (c .before .before .before .before .loop .inv .1) (slot c)
-
-add-v : tie.Need-add-v Inv-loop μ-loop
-add-v c = omega arith
-
-cast-v : tie.Need-cast-v Inv-loop μ-loop
-cast-v c = omega arith
-
-runs-off-requires : tie.Need-runs-off-requires Inv-loop μ-loop
-runs-off-requires c κs = fit (c .before .before .before .before)
-
-paint-runs-requires : tie.Need-paint-runs-requires Inv-loop μ-loop
-paint-runs-requires c κs = fit (c .before .before .before .before .before .before)
-
-add-k : tie.Need-add-k Inv-loop μ-loop
-add-k c = omega arith
-
-loop-less : tie.Need-loop-less Inv-loop μ-loop
-loop-less c = omega arith
-
-loop-again : tie.Need-loop-again Inv-loop μ-loop
-loop-again c =
-    let e = c .before .before .before .before .before .before .before in
-    (omega arith, gone-step _ _ _ _ (e .before .before .before .before .loop .inv .1) (c .before .before .runs-off .result) _ (slot e) (c .before .before .runs-off .ensures) (c .paint-runs .ensures))
-
-differ-requires : tie.Need-differ-requires Inv-loop μ-loop
-differ-requires c κs = search needs
-
-mul-y : tie.Need-mul-y Inv-loop μ-loop
-mul-y c = omega arith
-
-element-copy-out-y : tie.Need-element-copy-out-y Inv-loop μ-loop
-element-copy-out-y c = omega arith
-
-mode-right-requires : tie.Need-mode-right-requires Inv-loop μ-loop
-mode-right-requires c κs =
-    let e = c .before .before .before .before .before .before .before .before .before .before in
-    let l = e .before in
-    (l .loop .inv .1 .sizes .most, gone-few _ _ _ _ (l .loop .inv .1) (l .loop .inv .0) (e .loop-test .left))
-
-returns-3 : tie.Need-returns-3 Inv-loop μ-loop
-returns-3 c =
-    let e = c .before .before .before .before .before .before .before .before .before .before .before in
-    let l = e .before in
-    gone-end _ _ _ _ (l .loop .inv .1) (l .loop .inv .0) (e .loop-test .left) (c .before .before .before .before .before .before .before .differ .result) (c .mode-right .result) (c .before .before .before .before .before .before .before .differ .ensures) (c .mode-right .ensures)
+returns : tie.Need-returns
+returns c = let a = c .before .args in ap (λ (x : Sight). x .right) (c .seen .ensures) ∙ seen-right (a .s) 0 0 0
 
 pub state-right-spec : {M : Type 1} → statement M
-state-right-spec =
-    tie.close
-    (tie.spec
-    Inv-loop
-    μ-loop
-    sizes-right-requires
-    returns
-    sub-top
-    paint-requires
-    loop-holds
-    mul-x
-    element-copy-out-x
-    slot-right-requires
-    returns-2
-    add-v
-    cast-v
-    runs-off-requires
-    paint-runs-requires
-    add-k
-    loop-less
-    loop-again
-    differ-requires
-    mul-y
-    element-copy-out-y
-    mode-right-requires
-    returns-3)
+state-right-spec = tie.close (tie.spec seen-requires returns)

@@ -1,6 +1,7 @@
-use Rattle.call.proofs.Calls.{in-4, out-4, in-5, out-5, enter-on, entered-settles, kept-fits, kept-part, param-ready, param-same, param-in}
+use Rattle.call.proofs.Calls.{open-by, in-4, out-4, in-5, out-5, enter-on, entered-settles, param-ready, param-same, param-in}
+use Rattle.switch.proofs.Kept.{kept-fits, kept-part}
 use Rattle.change.proofs.Settled.{still-settles}
-use Rattle.touch.proofs.Ready.{ready, long, few-pages}
+use Rattle.touch.proofs.Ready.{ready, long}
 use Rattle.rules.specs.Plan.{nothing}
 use Rattle.events.specs.declared.Answer.the-variants as answer
 use Rattle.state.proofs.Shaped.{state-shape}
@@ -24,56 +25,53 @@ cast-m c = search needs
 returns : tie.Need-returns
 returns c = λ payload.
     let a = c .before .before .before .before .before .before .args in
-    rw (in-4 (faceOf (a .t1)) (a .k) (a .x) (a .input) (a .output) (sym (c .before .before .in-range .ensures) ∙ not-true _ (c .before .if1 .taken)))
-    (still-settles (a .t1) (state-shape (a .t1) _ (c .before .before .before .before .before .before .good .0) .slots-long) nothing (answer.Refused 4) payload (a .memory .now) _ (c .kept .ensures))
+    rw (in-4 (faceOf (a .s)) (a .found .k) (a .x) (a .input) (a .output) (sym (c .before .before .in-range .ensures) ∙ not-true _ (c .before .if1 .taken)))
+    (still-settles (a .s) (state-shape (a .s) _ (c .before .before .before .before .before .before .good .0) .slots-long) nothing (answer.Refused 4) payload (a .memory .now) _ (c .kept .ensures))
 
 returns-2 : tie.Need-returns-2
 returns-2 c = λ payload.
     let a = c .before .before .before .before .before .before .before .before .args in
-    rw (out-4 (faceOf (a .t1)) (a .k) (a .x) (a .input) (a .output) (sym (c .before .before .before .before .in-range .ensures) ∙ not-false _ (c .before .before .before .if1 .left)) (sym (c .before .before .in-range2 .ensures) ∙ not-true _ (c .before .if2 .taken)))
-    (still-settles (a .t1) (state-shape (a .t1) _ (c .before .before .before .before .before .before .before .before .good .0) .slots-long) nothing (answer.Refused 4) payload (a .memory .now) _ (c .kept2 .ensures))
+    rw (out-4 (faceOf (a .s)) (a .found .k) (a .x) (a .input) (a .output) (sym (c .before .before .before .before .in-range .ensures) ∙ not-false _ (c .before .before .before .if1 .left)) (sym (c .before .before .in-range2 .ensures) ∙ not-true _ (c .before .if2 .taken)))
+    (still-settles (a .s) (state-shape (a .s) _ (c .before .before .before .before .before .before .before .before .good .0) .slots-long) nothing (answer.Refused 4) payload (a .memory .now) _ (c .kept2 .ensures))
 
 returns-3 : tie.Need-returns-3
 returns-3 c = λ payload.
-    let a = c .before .before .before .before .before .before .before .before .before .before .before .before .before .args in
-    rw (in-5 (faceOf (a .t1)) (a .k) (a .x) (a .input) (a .output) (sym (c .before .before .before .before .before .before .before .before .before .in-range .ensures) ∙ not-false _ (c .before .before .before .before .before .before .before .before .if1 .left)) (sym (c .before .before .before .before .before .before .before .in-range2 .ensures) ∙ not-false _ (c .before .before .before .before .before .before .if2 .left)) (sym (c .before .before .on-open .ensures) ∙ not-true _ (c .before .if3 .taken)))
-    (still-settles (a .t1) (state-shape (a .t1) _ (c .before .before .before .before .before .before .before .before .before .before .before .before .before .good .0) .slots-long) nothing (answer.Refused 5) payload (a .memory .now) _ (c .kept3 .ensures))
+    let a = c .before .before .before .before .before .before .before .before .before .before .args in
+    rw (in-5 (faceOf (a .s)) (a .found .k) (a .x) (a .input) (a .output) (sym (c .before .before .before .before .before .before .in-range .ensures) ∙ not-false _ (c .before .before .before .before .before .if1 .left)) (sym (c .before .before .before .before .in-range2 .ensures) ∙ not-false _ (c .before .before .before .if2 .left)) (open-by (a .s) (a .input) (a .x .input) (a .from) (c .before .before .before .before .before .before .before .before .before .before .pre .1 .0 .0) ∙ sym (c .before .before .on-open .ensures) ∙ not-true _ (c .before .if3 .taken)))
+    (still-settles (a .s) (state-shape (a .s) _ (c .before .before .before .before .before .before .before .before .before .before .good .0) .slots-long) nothing (answer.Refused 5) payload (a .memory .now) _ (c .kept3 .ensures))
 
 returns-4 : tie.Need-returns-4
 returns-4 c = λ payload.
-    let a = c .before .before .before .before .before .before .before .before .before .before .before .before .before .before .before .before .before .before .args in
-    rw (out-5 (faceOf (a .t1)) (a .k) (a .x) (a .input) (a .output) (sym (c .before .before .before .before .before .before .before .before .before .before .before .before .before .before .in-range .ensures) ∙ not-false _ (c .before .before .before .before .before .before .before .before .before .before .before .before .before .if1 .left)) (sym (c .before .before .before .before .before .before .before .before .before .before .before .before .in-range2 .ensures) ∙ not-false _ (c .before .before .before .before .before .before .before .before .before .before .before .if2 .left)) (sym (c .before .before .before .before .before .before .before .on-open .ensures) ∙ not-false _ (c .before .before .before .before .before .before .if3 .left)) (sym (c .before .before .on-open2 .ensures) ∙ not-true _ (c .before .if4 .taken)))
-    (still-settles (a .t1) (state-shape (a .t1) _ (c .before .before .before .before .before .before .before .before .before .before .before .before .before .before .before .before .before .before .good .0) .slots-long) nothing (answer.Refused 5) payload (a .memory .now) _ (c .kept4 .ensures))
-
-on-open-requires : tie.Need-on-open-requires
-on-open-requires c κs = omega (arith, few-pages (c .before .before .before .before .before .before .before .before .before .before .args .t1) (ready (c .before .before .before .before .before .before .before .before .before .before .args .t1) _ (c .before .before .before .before .before .before .before .before .before .before .pre .0)), state-shape (c .before .before .before .before .before .before .before .before .before .before .args .t1) _ (c .before .before .before .before .before .before .before .before .before .before .good .0) .owner-long)
-
-on-open-requires-2 : tie.Need-on-open-requires-2
-on-open-requires-2 c κs = omega (arith, few-pages (c .before .before .before .before .before .before .before .before .before .before .before .before .before .before .before .args .t1) (ready (c .before .before .before .before .before .before .before .before .before .before .before .before .before .before .before .args .t1) _ (c .before .before .before .before .before .before .before .before .before .before .before .before .before .before .before .pre .0)), state-shape (c .before .before .before .before .before .before .before .before .before .before .before .before .before .before .before .args .t1) _ (c .before .before .before .before .before .before .before .before .before .before .before .before .before .before .before .good .0) .owner-long)
+    let a = c .before .before .before .before .before .before .before .before .before .before .before .before .args in
+    rw (out-5 (faceOf (a .s)) (a .found .k) (a .x) (a .input) (a .output) (sym (c .before .before .before .before .before .before .before .before .in-range .ensures) ∙ not-false _ (c .before .before .before .before .before .before .before .if1 .left)) (sym (c .before .before .before .before .before .before .in-range2 .ensures) ∙ not-false _ (c .before .before .before .before .before .if2 .left)) (open-by (a .s) (a .input) (a .x .input) (a .from) (c .before .before .before .before .before .before .before .before .before .before .before .before .pre .1 .0 .0) ∙ sym (c .before .before .before .before .on-open .ensures) ∙ not-false _ (c .before .before .before .if3 .left)) (open-by (a .s) (a .output) (a .x .output) (a .to) (c .before .before .before .before .before .before .before .before .before .before .before .before .pre .1 .0 .1) ∙ sym (c .before .before .on-open2 .ensures) ∙ not-true _ (c .before .if4 .taken)))
+    (still-settles (a .s) (state-shape (a .s) _ (c .before .before .before .before .before .before .before .before .before .before .before .before .good .0) .slots-long) nothing (answer.Refused 5) payload (a .memory .now) _ (c .kept4 .ensures))
 
 param-start-requires : tie.Need-param-start-requires
-param-start-requires c κs = param-ready (c .before .before .before .before .before .before .before .before .before .before .before .before .before .before .before .before .before .before .before .before .before .before .args .t1) (ready (c .before .before .before .before .before .before .before .before .before .before .before .before .before .before .before .before .before .before .before .before .before .before .args .t1) _ (c .before .before .before .before .before .before .before .before .before .before .before .before .before .before .before .before .before .before .before .before .before .before .pre .0)) (c .before .before .before .before .before .before .before .before .before .before .before .before .before .before .before .before .before .before .before .before .before .before .args .k) (c .before .before .before .before .before .before .before .before .before .before .before .before .before .before .before .before .before .before .before .before .before .before .pre .1 .0) (c .before .before .before .before .before .before .before .before .before .before .before .before .before .before .before .before .before .before .before .before .before .before .pre .1 .1 .0)
+param-start-requires c κs =
+    let a = c .before .before .before .before .before .before .before .before .before .before .before .before .before .before .before .before .args in
+    let w = c .before .before .before .before .before .before .before .before .before .before .before .before .before .before .before .before .pre in
+    param-ready (a .s) (ready (a .s) _ (w .0)) (a .found .k) (w .1 .1 .0 .0) (w .1 .1 .1 .0) (a .found .slot) (w .1 .1 .0 .1)
 
 move-bytes-requires : tie.Need-move-bytes-requires
 move-bytes-requires c κs =
-    let a = c .before .before .before .before .before .before .before .before .before .before .before .before .before .before .before .before .before .before .before .before .before .before .before .args in
-    let w = c .before .before .before .before .before .before .before .before .before .before .before .before .before .before .before .before .before .before .before .before .before .before .before .pre in
-    let h = ready (a .t1) _ (w .0) in
-    let f = kept-fits (a .t1 .pages) (a .input) (a .x .input) _ (long (a .t1) _ (w .0)) (sym (c .before .before .before .before .before .before .before .before .before .before .before .before .before .before .before .before .before .before .before .in-range .ensures) ∙ not-false _ (c .before .before .before .before .before .before .before .before .before .before .before .before .before .before .before .before .before .before .if1 .left)) in
-    let e = c .param-start .ensures ∙ ap startOf (param-same (a .t1) h (a .k) (w .1 .0) (w .1 .1 .0)) in
-    (omega (arith, c .before .kept-as .ensures, f), (omega (arith, e, param-in (a .t1) h (a .k) (w .1 .0) (w .1 .1 .0), long (a .t1) _ (w .0), w .1 .1 .1), omega (arith, w .1 .1 .1)))
+    let a = c .before .before .before .before .before .before .before .before .before .before .before .before .before .before .before .before .before .args in
+    let w = c .before .before .before .before .before .before .before .before .before .before .before .before .before .before .before .before .before .pre in
+    let h = ready (a .s) _ (w .0) in
+    let f = kept-fits (a .s .pages) (a .input) (a .x .input) _ (long (a .s) _ (w .0)) (sym (c .before .before .before .before .before .before .before .before .before .before .before .before .before .in-range .ensures) ∙ not-false _ (c .before .before .before .before .before .before .before .before .before .before .before .before .if1 .left)) in
+    let e = c .param-start .ensures ∙ ap startOf (param-same (a .s) h (a .found .k) (w .1 .1 .0 .0) (w .1 .1 .1 .0) (a .found .slot) (w .1 .1 .0 .1)) in
+    (omega (arith, c .before .kept-as .ensures, f), (omega (arith, e, param-in (a .s) h (a .found .k) (w .1 .1 .0 .0) (w .1 .1 .1 .0), long (a .s) _ (w .0), w .1 .1 .1 .1), omega (arith, w .1 .1 .1 .1)))
 
 returns-5 : tie.Need-returns-5
 returns-5 c = λ payload.
-    let a = c .before .before .before .before .before .before .before .before .before .before .before .before .before .before .before .before .before .before .before .before .before .before .before .before .before .before .before .before .args in
-    let w = c .before .before .before .before .before .before .before .before .before .before .before .before .before .before .before .before .before .before .before .before .before .before .before .before .before .before .before .before .pre in
-    let h = ready (a .t1) _ (w .0) in
+    let a = c .before .before .before .before .before .before .before .before .before .before .before .before .before .before .before .before .before .before .before .before .before .before .args in
+    let w = c .before .before .before .before .before .before .before .before .before .before .before .before .before .before .before .before .before .before .before .before .before .before .pre in
+    let h = ready (a .s) _ (w .0) in
     let m = a .memory .now in
     let e = c .before .before .before .before .move-bytes .ensures
-    ∙ (λ i. sets m ((c .before .before .before .before .before .param-start .ensures ∙ ap startOf (param-same (a .t1) h (a .k) (w .1 .0) (w .1 .1 .0))) i) (part m (c .before .before .before .before .before .before .kept-as .ensures i) (a .x .input)))
+    ∙ (λ i. sets m ((c .before .before .before .before .before .param-start .ensures ∙ ap startOf (param-same (a .s) h (a .found .k) (w .1 .1 .0 .0) (w .1 .1 .1 .0) (a .found .slot) (w .1 .1 .0 .1))) i) (part m (c .before .before .before .before .before .before .kept-as .ensures i) (a .x .input)))
     ∙ ap (sets m _) (kept-part m (a .input) (a .x .input)) in
-    rw (enter-on (faceOf (a .t1)) (a .k) (a .x) (a .input) (a .output) (sym (c .before .before .before .before .before .before .before .before .before .before .before .before .before .before .before .before .before .before .before .before .before .before .before .before .in-range .ensures) ∙ not-false _ (c .before .before .before .before .before .before .before .before .before .before .before .before .before .before .before .before .before .before .before .before .before .before .before .if1 .left)) (sym (c .before .before .before .before .before .before .before .before .before .before .before .before .before .before .before .before .before .before .before .before .before .before .in-range2 .ensures) ∙ not-false _ (c .before .before .before .before .before .before .before .before .before .before .before .before .before .before .before .before .before .before .before .before .before .if2 .left)) (sym (c .before .before .before .before .before .before .before .before .before .before .before .before .before .before .before .before .before .on-open .ensures) ∙ not-false _ (c .before .before .before .before .before .before .before .before .before .before .before .before .before .before .before .before .if3 .left)) (sym (c .before .before .before .before .before .before .before .before .before .before .before .before .on-open2 .ensures) ∙ not-false _ (c .before .before .before .before .before .before .before .before .before .before .before .if4 .left)))
-    (entered-settles (a .t1) (state-shape (a .t1) _ (c .before .before .before .before .before .before .before .before .before .before .before .before .before .before .before .before .before .before .before .before .before .before .before .before .before .before .before .before .good .0) .slots-long) (a .k) (a .x) (a .input) (a .output) payload m _ (c .before .entering .result) _ (c .before .entering .ensures) (c .turned .ensures) e)
+    rw (enter-on (faceOf (a .s)) (a .found .k) (a .x) (a .input) (a .output) (sym (c .before .before .before .before .before .before .before .before .before .before .before .before .before .before .before .before .before .before .in-range .ensures) ∙ not-false _ (c .before .before .before .before .before .before .before .before .before .before .before .before .before .before .before .before .before .if1 .left)) (sym (c .before .before .before .before .before .before .before .before .before .before .before .before .before .before .before .before .in-range2 .ensures) ∙ not-false _ (c .before .before .before .before .before .before .before .before .before .before .before .before .before .before .before .if2 .left)) (open-by (a .s) (a .input) (a .x .input) (a .from) (c .before .before .before .before .before .before .before .before .before .before .before .before .before .before .before .before .before .before .before .before .before .before .pre .1 .0 .0) ∙ sym (c .before .before .before .before .before .before .before .before .before .before .before .before .before .before .on-open .ensures) ∙ not-false _ (c .before .before .before .before .before .before .before .before .before .before .before .before .before .if3 .left)) (open-by (a .s) (a .output) (a .x .output) (a .to) (c .before .before .before .before .before .before .before .before .before .before .before .before .before .before .before .before .before .before .before .before .before .before .pre .1 .0 .1) ∙ sym (c .before .before .before .before .before .before .before .before .before .before .before .before .on-open2 .ensures) ∙ not-false _ (c .before .before .before .before .before .before .before .before .before .before .before .if4 .left)))
+    (entered-settles (a .s) (state-shape (a .s) _ (c .before .before .before .before .before .before .before .before .before .before .before .before .before .before .before .before .before .before .before .before .before .before .good .0) .slots-long) (a .found .k) (a .x) (a .input) (a .output) payload m _ (c .before .entering .result) _ (c .before .entering .ensures) (c .turned .ensures) e)
 
 in-range-requires : tie.Need-in-range-requires
 in-range-requires c κs = search needs
@@ -87,17 +85,17 @@ in-range-requires-2 c κs = search needs
 kept-requires-2 : tie.Need-kept-requires-2
 kept-requires-2 c κs = search needs
 
+on-open-requires : tie.Need-on-open-requires
+on-open-requires c κs = search needs
+
+on-open-requires-2 : tie.Need-on-open-requires-2
+on-open-requires-2 c κs = search needs
+
 kept-requires-3 : tie.Need-kept-requires-3
 kept-requires-3 c κs = search needs
 
 kept-requires-4 : tie.Need-kept-requires-4
 kept-requires-4 c κs = search needs
-
-mul-slot : tie.Need-mul-slot
-mul-slot c = search needs
-
-element-copy-out-slot : tie.Need-element-copy-out-slot
-element-copy-out-slot c = search needs
 
 kept-as-requires : tie.Need-kept-as-requires
 kept-as-requires c κs = search needs
@@ -129,8 +127,6 @@ call-entry-spec =
     on-open-requires-2
     kept-requires-4
     returns-4
-    mul-slot
-    element-copy-out-slot
     kept-as-requires
     param-start-requires
     move-bytes-requires

@@ -9,7 +9,7 @@ is-open-requires : tie.Need-is-open-requires
 is-open-requires c κs = search needs
 
 returns : tie.Need-returns
-returns c = ap (λ (t : Bool). eqb (c .before .before .args .n) 0 || t) (c .is-open .ensures)
+returns c = ap (λ (t : Bool). eqb (c .before .args .n) 0 || t) (c .is-open .ensures)
 
 pub on-open-spec : {M : Type 1} → statement M
 on-open-spec =

@@ -1,4 +1,5 @@
-use Rattle.call.proofs.Calls.{few-entries}
+use Rattle.call.proofs.Calls.{few-entries, sought-at, sought-none}
+use borrow.Author.Needs.{needs}
 use Rattle.rules.specs.Tests.{underMark, entryOf, callableAt, slotFor}
 use Rattle.state.proofs.Faces.{card-at}
 use Rattle.state.specs.Face.{faceOf}
@@ -30,7 +31,7 @@ element-copy-out-slot : tie.Need-element-copy-out-slot Inv-loop μ-loop
 element-copy-out-slot c = omega arith
 
 callable-requires : tie.Need-callable-requires Inv-loop μ-loop
-callable-requires c κs = let z = c .before .before .before in few-entries (z .args .t1) (z .pre) (c .before .before .loop .k) (c .before .loop-test .taken)
+callable-requires c κs = few-entries (c .before .before .before .args .t1) (c .before .before .before .pre) (c .before .before .loop .k) (c .before .loop-test .taken)
 
 returns : tie.Need-returns Inv-loop μ-loop
 unfolding slotFor
@@ -38,7 +39,7 @@ returns c =
     let a = c .before .before .before .before .before .args in
     let k = c .before .before .before .before .loop .k in
     let t = ap (λ (x : Card). underMark x (a .mark) && ltb (entryOf (x .fields) (a .address)) (x .fields .e)) (card-at (a .t1 .slots) k) ∙ sym (c .before .callable .ensures) ∙ c .if1 .taken in
-    first-hit (callableAt (faceOf (a .t1)) (a .mark) (a .address)) slotCount k (c .before .before .before .loop-test .taken) (c .before .before .before .before .loop .inv .1) t
+    sought-at (a .t1) _ k (c .before .before .before .loop-test .taken) (first-hit (callableAt (faceOf (a .t1)) (a .mark) (a .address)) slotCount k (c .before .before .before .loop-test .taken) (c .before .before .before .before .loop .inv .1) t)
 
 add-k : tie.Need-add-k Inv-loop μ-loop
 add-k c = omega arith
@@ -53,12 +54,15 @@ loop-again c =
     let t = ap (λ (x : Card). underMark x (a .mark) && ltb (entryOf (x .fields) (a .address)) (x .fields .e)) (card-at (a .t1 .slots) k) ∙ sym (c .before .callable .ensures) ∙ c .if1 .left in
     (omega arith, first-more (callableAt (faceOf (a .t1)) (a .mark) (a .address)) k (c .before .before .before .before .loop .inv .1) t)
 
+zero-requires : tie.Need-zero-requires Inv-loop μ-loop
+zero-requires c κs = search needs
+
 returns-2 : tie.Need-returns-2 Inv-loop μ-loop
 unfolding slotFor
 returns-2 c =
-    let a = c .before .before .args in
-    let l = c .before .loop in
-    first-end (callableAt (faceOf (a .t1)) (a .mark) (a .address)) slotCount (l .k) (l .inv .0) (c .loop-test .left) (l .inv .1)
+    let a = c .before .before .before .args in
+    let l = c .before .before .loop in
+    sought-none (a .t1) _ (c .zero .ensures) (first-end (callableAt (faceOf (a .t1)) (a .mark) (a .address)) slotCount (l .k) (l .inv .0) (c .before .loop-test .left) (l .inv .1))
 
 pub slot-for-spec : {M : Type 1} → statement M
 slot-for-spec =
@@ -74,4 +78,5 @@ slot-for-spec =
     add-k
     loop-less
     loop-again
+    zero-requires
     returns-2)

@@ -13,47 +13,41 @@ use Rattle.call.proofs.return_.return_.Tie as tie
 
 param-start-requires : tie.Need-param-start-requires
 param-start-requires c κs =
-    let a = c .before .before .before .before .before .before .before .before .args in
-    let h = ready (a .t1) _ (c .before .before .before .before .before .before .before .before .pre .0) in
-    let q = runs-in (a .t1) h (a .k) (c .before .before .before .before .before .before .before .before .pre .1) in
-    param-ready (a .t1) h (a .k) (q .below) (q .registered)
+    let a = c .before .before .before .before .before .before .before .args in
+    let h = ready (a .s) _ (c .before .before .before .before .before .before .before .pre .0) in
+    let q = runs-in (a .s) h (a .k) (c .before .before .before .before .before .before .before .pre .1 .0) in
+    param-ready (a .s) h (a .k) (q .below) (q .registered) (a .slot) (c .before .before .before .before .before .before .before .pre .1 .1)
 
 add-from : tie.Need-add-from
 add-from c =
-    let a = c .before .before .before .before .before .before .before .before .before .args in
-    let h = ready (a .t1) _ (c .before .before .before .before .before .before .before .before .before .pre .0) in
-    let q = runs-in (a .t1) h (a .k) (c .before .before .before .before .before .before .before .before .before .pre .1) in
-    record { fits = omega (arith, c .param-start .ensures, param-ready (a .t1) h (a .k) (q .below) (q .registered) .1 .1) }
+    let a = c .before .before .before .before .before .before .before .before .args in
+    let h = ready (a .s) _ (c .before .before .before .before .before .before .before .before .pre .0) in
+    let q = runs-in (a .s) h (a .k) (c .before .before .before .before .before .before .before .before .pre .1 .0) in
+    record { fits = omega (arith, c .param-start .ensures, param-ready (a .s) h (a .k) (q .below) (q .registered) (a .slot) (c .before .before .before .before .before .before .before .before .pre .1 .1) .1 .1) }
 
 move-bytes-requires : tie.Need-move-bytes-requires
 move-bytes-requires c κs =
-    let s = c .before .before .before .before .before .before .before .before .before .before .args .t1 in
-    let h = ready s _ (c .before .before .before .before .before .before .before .before .before .before .pre .0) in
-    let q = runs-in s h (c .before .before .before .before .before .before .before .before .before .before .args .k) (c .before .before .before .before .before .before .before .before .before .before .pre .1) in
-    let e = c .before .param-start .ensures ∙ ap startOf (param-same s h (c .before .before .before .before .before .before .before .before .before .before .args .k) (q .below) (q .registered)) in
-    let o = output-small s h (c .before .before .before .before .before .before .before .before .before .before .args .k) (c .before .before .before .before .before .before .before .before .before .before .pre .1) in
-    rw (c .before .before .before .before .before .before .before .leaving .ensures)
-    (omega (arith, e, param-in s h (c .before .before .before .before .before .before .before .before .before .before .args .k) (q .below) (q .registered), long s _ (c .before .before .before .before .before .before .before .before .before .before .pre .0), o), (out-fits s _ (c .before .before .before .before .before .before .before .before .before .before .args .k) (c .before .before .before .before .before .before .before .before .before .before .pre .0) (c .before .before .before .before .before .before .before .before .before .before .pre .1), omega (arith, o)))
+    let s = c .before .before .before .before .before .before .before .before .before .args .s in
+    let h = ready s _ (c .before .before .before .before .before .before .before .before .before .pre .0) in
+    let q = runs-in s h (c .before .before .before .before .before .before .before .before .before .args .k) (c .before .before .before .before .before .before .before .before .before .pre .1 .0) in
+    let e = c .before .param-start .ensures ∙ ap startOf (param-same s h (c .before .before .before .before .before .before .before .before .before .args .k) (q .below) (q .registered) (c .before .before .before .before .before .before .before .before .before .args .slot) (c .before .before .before .before .before .before .before .before .before .pre .1 .1)) in
+    let o = output-small s h (c .before .before .before .before .before .before .before .before .before .args .k) (c .before .before .before .before .before .before .before .before .before .pre .1 .0) in
+    rw (c .before .before .before .before .before .before .leaving .ensures)
+    (omega (arith, e, param-in s h (c .before .before .before .before .before .before .before .before .before .args .k) (q .below) (q .registered), long s _ (c .before .before .before .before .before .before .before .before .before .pre .0), o), (out-fits s _ (c .before .before .before .before .before .before .before .before .before .args .k) (c .before .before .before .before .before .before .before .before .before .pre .0) (c .before .before .before .before .before .before .before .before .before .pre .1 .0), omega (arith, o)))
 
 returns : tie.Need-returns
 returns c = λ payload.
-    let a = c .before .before .before .before .before .before .before .before .before .before .before .before .before .before .args in
-    let s = a .t1 in
-    let h = ready s _ (c .before .before .before .before .before .before .before .before .before .before .before .before .before .before .pre .0) in
-    let r = runs-in s h (a .k) (c .before .before .before .before .before .before .before .before .before .before .before .before .before .before .pre .1) in
-    let q = c .before .before .before .before .before .before .before .before .before .before .before .leaving .ensures in
+    let a = c .before .before .before .before .before .before .before .before .before .before .before .before .before .args in
+    let s = a .s in
+    let h = ready s _ (c .before .before .before .before .before .before .before .before .before .before .before .before .before .pre .0) in
+    let r = runs-in s h (a .k) (c .before .before .before .before .before .before .before .before .before .before .before .before .before .pre .1 .0) in
+    let q = c .before .before .before .before .before .before .before .before .before .before .leaving .ensures in
     let m = a .memory .now in
-    let e = (rw q at (c .before .before .before .move-bytes .ensures)) ∙ (λ i. sets m (s .running .out) (part m ((c .before .before .before .before .before .param-start .ensures ∙ ap startOf (param-same s h (a .k) (r .below) (r .registered))) i + 2048) (s .running .length))) in
-    returned-settles s (state-shape s _ (c .before .before .before .before .before .before .before .before .before .before .before .before .before .before .good .0) .slots-long) (a .k) payload m _ _ (rw q at (c .turned .ensures)) e
+    let e = (rw q at (c .before .before .before .move-bytes .ensures)) ∙ (λ i. sets m (s .running .out) (part m ((c .before .before .before .before .before .param-start .ensures ∙ ap startOf (param-same s h (a .k) (r .below) (r .registered) (a .slot) (c .before .before .before .before .before .before .before .before .before .before .before .before .before .pre .1 .1))) i + 2048) (s .running .length))) in
+    returned-settles s (state-shape s _ (c .before .before .before .before .before .before .before .before .before .before .before .before .before .good .0) .slots-long) (a .k) payload m _ _ (rw q at (c .turned .ensures)) e
 
 leaving-requires : tie.Need-leaving-requires
 leaving-requires c κs = search needs
-
-mul-slot : tie.Need-mul-slot
-mul-slot c = omega (arith, runs-in (c .before .before .before .before .before .args .t1) (ready (c .before .before .before .before .before .args .t1) _ (c .before .before .before .before .before .pre .0)) (c .before .before .before .before .before .args .k) (c .before .before .before .before .before .pre .1) .below)
-
-element-copy-out-slot : tie.Need-element-copy-out-slot
-element-copy-out-slot c = omega (arith, runs-in (c .before .before .before .before .before .args .t1) (ready (c .before .before .before .before .before .args .t1) _ (c .before .before .before .before .before .pre .0)) (c .before .before .before .before .before .args .k) (c .before .before .before .before .before .pre .1) .below)
 
 turned-requires : tie.Need-turned-requires
 turned-requires c κs = search needs
@@ -66,8 +60,6 @@ return--spec =
     tie.close
     (tie.spec
     leaving-requires
-    mul-slot
-    element-copy-out-slot
     param-start-requires
     add-from
     move-bytes-requires

@@ -64,7 +64,7 @@ returns-4 c =
     ∙ ap (λ (p : ℕ). chosenOf (a .payload .now) (a .memory .now) (a .source) p (a .n)) (c .before .before .before .kept-as .ensures)
     ∙ source-same (a .payload .now) (a .memory .now) (a .source) (a .address) (a .n)) in
     rw (extend-on (faceOf (a .s)) (a .k) (length (a .payload .now)) (a .index) (a .source) (a .address) (a .n) (lt-ltb (a .index) pcrCount (c .before .before .before .before .before .before .before .before .if1 .left)) (sym (c .before .before .before .before .before .before .before .source-right .ensures) ∙ not-false _ (c .before .before .before .before .before .before .if2 .left)) (sym (c .before .before .before .before .before .source-reached .ensures) ∙ not-false _ (c .before .before .before .before .if3 .left)))
-    (extended-settles (a .s) (state-shape (a .s) _ (z .good .0) .slots-long) (a .k) (z .pre .1) (a .index) (c .before .before .before .before .before .before .before .before .if1 .left) (a .source) (a .address) (a .n) (a .payload .now) (a .memory .now) (c .before .hash .result) _ h (c .extending .ensures))
+    (extended-settles (a .s) (state-shape (a .s) _ (z .good .0) .slots-long) (a .k) (z .pre .1 .0) (a .index) (c .before .before .before .before .before .before .before .before .if1 .left) (a .source) (a .address) (a .n) (a .payload .now) (a .memory .now) (c .before .hash .result) _ h (c .extending .ensures))
 
 kept-requires : tie.Need-kept-requires
 kept-requires c κs = search needs

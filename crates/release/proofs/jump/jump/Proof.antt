@@ -3,7 +3,7 @@ use Rattle.release.proofs.Releases.{jump-still}
 use Rattle.touch.proofs.Ready.{ready, mode-below}
 use Rattle.rules.specs.Decide.{jumpLegacy, jumpSecure, byMode}
 use Rattle.state.proofs.Shaped.{state-shape}
-use Rattle.state.specs.Face.{faceOf, pcrsOf}
+use Rattle.state.specs.Face.{faceOf}
 use borrow.Author.Needs.{needs}
 use Rattle.release.proofs.jump.jump.Statement.{statement}
 use Rattle.release.proofs.jump.jump.Tie as tie
@@ -12,13 +12,16 @@ enum-told : tie.Need-enum-told
 enum-told c = search needs
 
 jump-legacy-requires : tie.Need-jump-legacy-requires
-jump-legacy-requires c κs = let z = c .before .before .before in ready (z .args .s) _ (z .pre)
+jump-legacy-requires c κs = c .before .before .before .pre .1 .0
 
 enum-known-mode : tie.Need-enum-known-mode
 enum-known-mode c = search needs
 
 jump-secure-requires : tie.Need-jump-secure-requires
-jump-secure-requires c κs = let z = c .before .before .before .before .before in (z .pre, mode-below (z .args .s) (ready (z .args .s) _ (z .pre)) _ (c .before .before .mode .given .1))
+jump-secure-requires c κs =
+    let z = c .before .before .before .before .before in
+    let e = c .before .before .mode .given .1 in
+    (z .pre .0, (mode-below (z .args .s) (ready (z .args .s) _ (z .pre .0)) _ e, (z .pre .1 .0, z .pre .1 .1 _ e)))
 
 returns : tie.Need-returns
 returns c = λ payload.

@@ -1,14 +1,14 @@
-use Rattle.state.specs.Face.{faceOf}
 use Rattle.touch.proofs.Plans.{device-open}
-use mathlib.Core.Path.{sym, _∙_}
+use Rattle.state.specs.Face.{faceOf}
+use borrow.Author.Needs.{needs}
 use Rattle.touch.proofs.pages.device_may.Statement.{statement}
 use Rattle.touch.proofs.pages.device_may.Tie as tie
 
-is-open-in-requires : tie.Need-is-open-in-requires
-is-open-in-requires c κs = c .pre
+is-open-requires : tie.Need-is-open-requires
+is-open-requires c κs = search needs
 
 returns : tie.Need-returns
-returns c = c .is-open-in .ensures ∙ sym (device-open (faceOf (c .before .args .s)) (c .before .args .page) (c .before .args .s .mode))
+returns c = let z = c .before in rw (device-open (faceOf (z .args .s)) (z .args .page) (z .args .s .mode), ← z .pre) (c .is-open .ensures)
 
 pub device-may-spec : {M : Type 1} → statement M
-device-may-spec = tie.close (tie.spec is-open-in-requires returns)
+device-may-spec = tie.close (tie.spec is-open-requires returns)

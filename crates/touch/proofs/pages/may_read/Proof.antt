@@ -1,37 +1,27 @@
 use Rattle.touch.proofs.Ready.{mode-below}
-use Rattle.rules.specs.Tests.{read, mayReach}
-use Rattle.state.specs.Face.{faceOf}
-use Rattle.state.specs.declared.Mode.{Mode}
-use mathlib.Core.Path.{sym, ap, _∙_}
 use borrow.Author.Needs.{needs}
 use Rattle.touch.proofs.pages.may_read.Statement.{statement}
 use Rattle.touch.proofs.pages.may_read.Tie as tie
 
-is-open-in-requires : tie.Need-is-open-in-requires
-is-open-in-requires c κs = c .before .before .pre
-
-is-own-of-requires : tie.Need-is-own-of-requires
-is-own-of-requires c κs = mode-below (c .before .before .before .args .s) (c .before .before .before .pre) _ (c .before .mode .given .1)
-
-returns : tie.Need-returns
-returns c = c .is-open-in .ensures ∙ sym (ap (λ (m : Mode). mayReach m (faceOf (c .before .before .before .args .s)) read (c .before .before .before .args .page)) (c .before .enum-told .given .1))
-
-returns-2 : tie.Need-returns-2
-returns-2 c = c .is-own-of .ensures ∙ sym (ap (λ (m : Mode). mayReach m (faceOf (c .before .before .before .before .args .s)) read (c .before .before .before .before .args .page)) (c .before .before .mode .given .1))
-
 enum-told : tie.Need-enum-told
 enum-told c = search needs
+
+is-open-requires : tie.Need-is-open-requires
+is-open-requires c κs = search needs
 
 enum-known-mode : tie.Need-enum-known-mode
 enum-known-mode c = search needs
 
+is-own-requires : tie.Need-is-own-requires
+is-own-requires c κs = let z = c .before .before .before in mode-below (z .args .s) (z .pre .0) _ (c .before .mode .given .1)
+
+returns : tie.Need-returns
+returns c = rw (c .before .enum-told .given .1, ← c .before .before .before .pre .1) (c .is-open .ensures)
+
+returns-2 : tie.Need-returns-2
+returns-2 c = rw (c .before .before .mode .given .1, ← c .before .before .before .before .pre .1) (c .is-own .ensures)
+
 pub may-read-spec : {M : Type 1} → statement M
 may-read-spec =
     tie.close
-    (tie.spec
-    enum-told
-    is-open-in-requires
-    enum-known-mode
-    is-own-of-requires
-    returns
-    returns-2)
+    (tie.spec enum-told is-open-requires enum-known-mode is-own-requires returns returns-2)

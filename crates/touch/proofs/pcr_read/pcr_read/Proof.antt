@@ -1,31 +1,20 @@
 use Rattle.touch.proofs.Plans.{pcr-10, pcr-9, pcr-on}
 use Rattle.touch.proofs.Ready.{pcr-long}
-use Rattle.state.proofs.Shaped.{state-shape}
+use Rattle.state.proofs.Shaped.{slot-shape}
 use Rattle.state.proofs.Faces.{pcrs-at}
 use Rattle.state.specs.Face.{faceOf}
-use Rattle.state.specs.Zero.{noPcr}
-use Rattle.sha1.specs.declared.Digest.{Digest}
-use lib.Seq.{sets}
-use lib.ListN.{getD}
 use native.Mathlib.Omega.{arith}
-use mathlib.Core.List.{List}
-use mathlib.Core.Path.{refl, sym, ap, _∙_}
+use mathlib.Core.Path.{refl, sym}
 use borrow.Author.Tests.{lt-leb, le-leb, lt-ltb, le-ltb}
 use borrow.Author.Needs.{needs}
 use Rattle.touch.proofs.pcr_read.pcr_read.Statement.{statement}
 use Rattle.touch.proofs.pcr_read.pcr_read.Tie as tie
 
 returns : tie.Need-returns
-returns c = λ m. let a = c .before .before .args in rw (pcr-10 (faceOf (a .t1)) (a .k) _ (a .index) (le-ltb _ _ (c .if1 .taken))) (refl, refl)
+returns c = λ m. let a = c .before .before .args in rw (pcr-10 (faceOf (a .s)) (a .k) _ (a .index) (le-ltb _ _ (c .if1 .taken))) (refl, refl)
 
 returns-2 : tie.Need-returns-2
-returns-2 c = λ m. let a = c .before .before .before .args in rw (pcr-9 (faceOf (a .t1)) (a .k) _ (a .index) (lt-ltb _ _ (c .before .if1 .left)) (lt-leb _ _ (c .if2 .taken))) (refl, refl)
-
-mul-slot : tie.Need-mul-slot
-mul-slot c = search needs
-
-element-copy-out-slot : tie.Need-element-copy-out-slot
-element-copy-out-slot c = search needs
+returns-2 c = λ m. let a = c .before .before .before .args in rw (pcr-9 (faceOf (a .s)) (a .k) _ (a .index) (lt-ltb _ _ (c .before .if1 .left)) (lt-leb _ _ (c .if2 .taken))) (refl, refl)
 
 mul-d : tie.Need-mul-d
 mul-d c = search needs
@@ -34,22 +23,23 @@ element-copy-out-d : tie.Need-element-copy-out-d
 element-copy-out-d c = search needs
 
 slice-aggregate-put-bytes : tie.Need-slice-aggregate-put-bytes
-slice-aggregate-put-bytes c = let s = c .before .before .before .before .before .before .before .before in sym (pcr-long (s .args .t1) (state-shape (s .args .t1) _ (s .good .0)) (s .args .k) (s .args .index) (s .pre) (c .before .before .before .before .before .before .if1 .left))
+slice-aggregate-put-bytes c = let s = c .before .before .before .before .before .before .before in sym (pcr-long (s .args .t3) (slot-shape (s .args .t3) _ (s .good .1 .1 .0)) (s .args .index) (c .before .before .before .before .before .if1 .left))
 
 put-bytes-requires : tie.Need-put-bytes-requires
 put-bytes-requires c κs =
-    let s = c .before .before .before .before .before .before .before .before in
-    let l = pcr-long (s .args .t1) (state-shape (s .args .t1) _ (s .good .0)) (s .args .k) (s .args .index) (s .pre) (c .before .before .before .before .before .before .if1 .left) in
-    (omega (arith, c .before .before .before .before .before .if2 .left), omega arith)
+    let s = c .before .before .before .before .before .before .before in
+    let l = pcr-long (s .args .t3) (slot-shape (s .args .t3) _ (s .good .1 .1 .0)) (s .args .index) (c .before .before .before .before .before .if1 .left) in
+    (omega (arith, c .before .before .before .before .if2 .left), omega arith)
 
 same-length : tie.Need-same-length
 same-length c = search needs
 
 returns-3 : tie.Need-returns-3
 returns-3 c = λ m.
-    let a = c .before .before .before .before .before .before .before .before .before .before .before .args in
-    rw (pcr-on (faceOf (a .t1)) (a .k) _ (a .index) (lt-ltb _ _ (c .before .before .before .before .before .before .before .before .before .if1 .left)) (le-leb _ _ (c .before .before .before .before .before .before .before .before .if2 .left)))
-    (refl, c .before .before .put-bytes .ensures ∙ ap (λ (ps : List Digest). sets (a .buffer .now) 0 (getD ps (a .index) noPcr .bytes)) (sym (pcrs-at (a .t1 .slots) (a .k))))
+    let s = c .before .before .before .before .before .before .before .before .before .before in
+    let a = s .args in
+    rw (pcr-on (faceOf (a .s)) (a .k) _ (a .index) (lt-ltb _ _ (c .before .before .before .before .before .before .before .before .if1 .left)) (le-leb _ _ (c .before .before .before .before .before .before .before .if2 .left)), pcrs-at (a .s .slots) (a .k), ← s .pre .1)
+    (refl, c .before .before .put-bytes .ensures)
 
 pub pcr-read-spec : {M : Type 1} → statement M
 pcr-read-spec =
@@ -57,8 +47,6 @@ pcr-read-spec =
     (tie.spec
     returns
     returns-2
-    mul-slot
-    element-copy-out-slot
     mul-d
     element-copy-out-d
     slice-aggregate-put-bytes

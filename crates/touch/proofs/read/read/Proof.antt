@@ -7,10 +7,10 @@ use Rattle.touch.proofs.read.read.Statement.{statement}
 use Rattle.touch.proofs.read.read.Tie as tie
 
 may-read-requires : tie.Need-may-read-requires
-may-read-requires c κs = ready _ _ (c .before .before .pre)
+may-read-requires c κs = let z = c .before .before in (ready _ _ (z .pre .0), z .pre .1)
 
 give-requires : tie.Need-give-requires
-give-requires c κs = long _ _ (c .before .before .before .before .pre)
+give-requires c κs = long _ _ (c .before .before .before .before .pre .0)
 
 same-length : tie.Need-same-length
 same-length c = search needs

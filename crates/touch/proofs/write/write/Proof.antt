@@ -7,10 +7,10 @@ use Rattle.touch.proofs.write.write.Statement.{statement}
 use Rattle.touch.proofs.write.write.Tie as tie
 
 may-write-requires : tie.Need-may-write-requires
-may-write-requires c κs = ready _ _ (c .before .before .pre)
+may-write-requires c κs = let z = c .before .before in (ready _ _ (z .pre .0), z .pre .1)
 
 take-requires : tie.Need-take-requires
-take-requires c κs = long _ _ (c .before .before .before .before .pre)
+take-requires c κs = long _ _ (c .before .before .before .before .pre .0)
 
 same-length : tie.Need-same-length
 same-length c = search needs
