@@ -35,7 +35,8 @@ pub struct Outcome {
 
 #[no_mangle]
 pub extern "C" fn stepped(m: Monitor, q: Request, payload: &[u8], memory: &mut [u8], buffer: &mut [u8]) -> Outcome {
-    let h = hear(m, q, payload, memory, buffer);
+    let x = looked(m, q);
+    let h = hear(m, q, x, payload, memory, buffer);
     let reply = h.reply;
     if !h.moved {
         return Outcome { monitor: m, reply: reply };

@@ -1,10 +1,9 @@
 -- Answers as text. "Answers: `ok`, `slot S`, `in S`, `out N`, `dead S`, `hex` and the bytes, `no R`." Each ends in one newline.
 use Prim.Native.Nat.{ℕ, _≤_, _<_, _^_}
 use mathlib.Core.Path.{_≡_}
-use mathlib.Core.Bool.{Bool}
 use mathlib.Core.List.{List, [], _∷_, _++_}
 use lib.ListN.{length, take, getD}
-use lib.Dec.{leb, ltb}
+use lib.Dec.{ltb}
 use Rattle.geometry.specs.Geometry.{pageSize}
 use Rattle.lists.specs.Below.{pick}
 use Rattle.events.specs.declared.Answer.{Answer}

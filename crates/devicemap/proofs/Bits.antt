@@ -4,7 +4,7 @@ use native.Mathlib.Nat.{mul-assoc, pow-suc, pow-le-pow-right, mod-eq-of-lt, div-
 use native.Mathlib.Numerals.{add-one}
 use native.Mathlib.Omega.{arith}
 use mathlib.Core.Path.{_≡_, refl, sym, ap, subst, _∙_}
-use mathlib.Core.Logic.{_⊎_, ⊎-elim, inl, inr}
+use mathlib.Core.Logic.{_⊎_, ⊎-elim}
 use lib.Bits.{bitOr, or-shifted-r}
 use lib.Pow.{pow-add, pow-pos}
 use Rattle.lists.proofs.Logic.{lt-or-ge}

@@ -1,20 +1,19 @@
 -- The map's bits, and the turns of the loop that fills the buffer.
-use Prim.Native.Nat.{ℕ, zero, suc, _+_, _*_, _/_, _%_, _^_, _≤_, _<_}
+use Prim.Native.Nat.{ℕ, _+_, _*_, _/_, _%_, _≤_, _<_}
 use native.Mathlib.Nat.{zero-add, div-add-mod}
 use native.Mathlib.Omega.{arith}
-use mathlib.Core.Path.{_≡_, refl, sym, ap, subst, _∙_}
+use mathlib.Core.Path.{_≡_, refl, ap, subst, _∙_}
 use mathlib.Core.Bool.{Bool, true, false, _&&_}
 use lib.Dec.{ltb, eqb}
 use mathlib.Core.List.{List, [], _∷_, _++_}
 use lib.ListN.{getD, set}
 use lib.Seq.{sets}
 use Rattle.lists.specs.Below.{pick, table}
-use Rattle.lists.proofs.Logic.{decided, pick-true, pick-false}
 use Rattle.lists.proofs.Parts.{sets-turn}
 use Rattle.lists.proofs.Tables.{table-at, table-long, table-more, table-same}
 use Rattle.state.specs.declared.State.{State}
-use Rattle.state.specs.Face.{Face, faceOf, isOpen}
-use Rattle.devicemap.specs.Map.{shutBit, mapByte, mapLength, mapOf, shutIn, bitIn, byteIn}
+use Rattle.state.specs.Face.{faceOf, isOpen}
+use Rattle.devicemap.specs.Map.{shutBit, mapByte, mapLength, mapOf, bitIn, byteIn}
 use Rattle.devicemap.specs.Promise.{EachBit}
 use Rattle.devicemap.proofs.Bits.{number-bit}
 

@@ -1,6 +1,6 @@
 -- "Bit p mod 8 of byte p/8 is 1 (shut) unless page p is open; spare high bits of the last byte are 1. It fills P/8 bytes, rounded up."
 use Prim.Native.Nat.{ℕ, zero, suc, _+_, _*_, _/_, _^_}
-use mathlib.Core.Bool.{Bool, _&&_}
+use mathlib.Core.Bool.{_&&_}
 use mathlib.Core.List.{List}
 use lib.ListN.{length, getD}
 use lib.Seq.{sets}

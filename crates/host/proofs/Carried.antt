@@ -9,7 +9,7 @@ use denote.Struct.Declared.{row}
 use Rattle.state.specs.declared.State.{State}
 use Rattle.state.specs.declared.Running.{Running}
 use Rattle.events.specs.declared.Event.{Event}
-use Rattle.rules.specs.Act.{Out, step}
+use Rattle.rules.specs.Act.{step}
 use Rattle.sha1.specs.declared.Digest.{Digest}
 use Rattle.events.specs.declared.Answer.{Answer}
 use Rattle.change.specs.declared.Turn.{Turn}
@@ -29,8 +29,7 @@ use Rattle.twin.specs.Twin.{numberOf, openedOf, shutOf}
 use Rattle.twin.specs.Asked.{askedOf, replyOf, unknownReply}
 use Rattle.twin.proofs.Laws.{given-back}
 use Rattle.twin.proofs.Monitor as monitor
-use Rattle.host.specs.declared.Heard.{Heard}
-use Rattle.host.specs.Host.{Hosted, Comes, renewedBy, steeredBy, hosted, shown, hostAsked, hostStep, lookedFor, hostLooked}
+use Rattle.host.specs.Host.{Comes, renewedBy, steeredBy, hosted, shown, hostAsked, hostStep, lookedFor, hostLooked}
 
 by-asked : (m : Monitor) (q : Request) (payload memory buffer : List ℕ) (a : Asked) → a ≡ askedOf q → hostAsked a m payload memory buffer ≡ hostStep m q payload memory buffer
 unfolding hostStep

@@ -5,7 +5,6 @@ use mathlib.Core.Logic.{_≢_}
 use mathlib.Core.List.{List}
 use lib.ListN.{length}
 use Rattle.geometry.specs.Geometry.{slotCount}
-use Rattle.events.specs.declared.Event.{Event}
 use Rattle.rules.specs.Act.{Out, step}
 use Rattle.kept.specs.Refusals.{AsGiven}
 use Rattle.kept.proofs.Refused.{refusals-keep}
@@ -15,7 +14,7 @@ use Rattle.twin.specs.declared.Asked.the-variants.{Known, Unknown}
 use Rattle.twin.specs.Twin.{openedOf, shutOf}
 use Rattle.twin.specs.Asked.{askedOf, replyOf}
 use Rattle.twin.proofs.Laws.{given-back, number-told}
-use Rattle.host.specs.Host.{Hosted, hosted, shown, hostAsked, hostStep}
+use Rattle.host.specs.Host.{hosted, shown, hostAsked, hostStep}
 use Rattle.host.specs.Promise.{RefusalsKeepAll}
 
 back : (m : Monitor) (memory buffer : List ℕ) (o : Out) → m .mode < 2 ^ 64 → AsGiven (openedOf m) memory buffer o → shown o ≡ hosted (replyOf (o .answer)) m memory buffer

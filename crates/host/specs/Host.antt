@@ -3,9 +3,7 @@ use Prim.Native.Nat.{ℕ}
 use mathlib.Core.Path.{_≡_}
 use mathlib.Core.Bool.{true, false}
 use mathlib.Core.List.{List}
-use Rattle.state.specs.declared.State.{State}
 use Rattle.state.specs.declared.Running.{Running}
-use Rattle.events.specs.declared.Event.{Event}
 use Rattle.rules.specs.Act.{Out, step}
 use Rattle.wellformed.specs.declared.Sight.{Sight}
 use Rattle.wellformed.specs.Seen.{nothingSeen}

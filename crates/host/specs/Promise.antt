@@ -7,7 +7,7 @@ use lib.ListN.{length}
 use Rattle.geometry.specs.Geometry.{slotCount}
 use Rattle.twin.specs.declared.Monitor.{Monitor}
 use Rattle.twin.specs.declared.Request.{Request}
-use Rattle.host.specs.Host.{Hosted, hosted, hostStep}
+use Rattle.host.specs.Host.{hosted, hostStep}
 
 -- Whatever state of its type C hands over, well formed or not, whatever it asks and lends: where the reply's number is not 0, the state, memory and the
 -- buffer are as they came.

@@ -5,8 +5,8 @@ use native.Mathlib.Omega.{arith}
 use mathlib.Core.Path.{_≡_, refl, sym, ap, _∙_}
 use mathlib.Core.Bool.{Bool, true, false, _&&_, _||_, false≢true}
 use lib.Bits.{bitOr}
-use lib.Dec.{leb, ltb, eqb, leb·zero}
-use Rattle.lists.specs.Below.{pick, all-below, any-below, sum-below}
+use lib.Dec.{leb, eqb, leb·zero}
+use Rattle.lists.specs.Below.{all-below, any-below, sum-below}
 use Rattle.lists.proofs.Logic.{and-l, and-r, both, decided}
 use Rattle.lists.proofs.All.{all-none, all-more, all-step, all-at, all-end, or-zero}
 use Rattle.lists.proofs.Any.{any-none, any-step, any-end}
@@ -15,7 +15,7 @@ use Rattle.geometry.specs.Geometry.{mostHeld, pageOf}
 use Rattle.fields.specs.declared.Entry.{Entry}
 use Rattle.fields.specs.declared.Fields.{Fields}
 use Rattle.fields.specs.Fields.{runAt, entryAt, endOf}
-use Rattle.fields.specs.Rules.{isParam, runRight, runRightAt, risesAt, runsRise, countAt, pagesFew, codeAt, someCode, paramAt, paramPagesAt, oneParam, runsRight, inCode, lengthsRight, entryRightAt, laterAt, entriesRise, entriesRight}
+use Rattle.fields.specs.Rules.{runRightAt, risesAt, runsRise, countAt, pagesFew, codeAt, someCode, paramAt, paramPagesAt, oneParam, runsRight, inCode, lengthsRight, entryRightAt, laterAt, entriesRise, entriesRight}
 
 -- a test of each two neighbours: the one at place i is of i - 1 and i
 abbrev before : (ℕ → Bool) → ℕ → Bool

@@ -1,6 +1,6 @@
 -- The grammar of a line: `reg MARK HEX`, `unr MARK SLOT`, `call MARK ADDR IN OUT`, `ret`, `jmp ADDR`, `get ADDR LEN`, `put ADDR HEX`, `dget`, `dput` (device),
 -- `extp INDEX HEX`, `extm INDEX ADDR LEN`, `pcr INDEX`. "A line over 2,000 characters, an empty one or any other is `no 11`".
-use Prim.Native.Nat.{ℕ, zero, suc, _+_}
+use Prim.Native.Nat.{ℕ, _+_}
 use mathlib.Core.Bool.{Bool, true, false, _&&_, _||_, not}
 use mathlib.Core.List.{List, [], _∷_}
 use lib.ListN.{length}

@@ -6,14 +6,14 @@ use Rattle.manifest.specs.declared.Written.{Written}
 use Rattle.manifest.specs.declared.Written.the-variants as written
 use Rattle.manifest.specs.Writer.{Wrote, writeManifest}
 use Rattle.twin.specs.declared.Reply.{Reply}
-use Rattle.twin.specs.Asked.{reply, Answered, answered}
+use Rattle.twin.specs.Asked.{reply, Said, answered}
 
 abbrev pub writtenReply : Written → Reply
 writtenReply (written.Bytes n) = reply 0 6 n
 writtenReply (written.Refused k) = reply k 0 0
 
-abbrev pub wroteOut : Wrote → Answered
+abbrev pub wroteOut : Wrote → Said
 wroteOut w = answered (writtenReply (w .answer)) (w .buffer)
 
-unfoldable pub hostWrite : Fields → List ℕ → Answered
+unfoldable pub hostWrite : Fields → List ℕ → Said
 hostWrite f buffer = wroteOut (writeManifest f buffer)

@@ -1,7 +1,7 @@
 -- A character between two others, by cases.
 use Prim.Native.Nat.{ℕ, _≤_, _<_}
-use mathlib.Core.Path.{_≡_, refl, sym, _∙_}
-use mathlib.Core.Bool.{Bool, true, false, and-false}
+use mathlib.Core.Path.{_≡_}
+use mathlib.Core.Bool.{true, false, and-false}
 use borrow.Author.Tests.{le-leb, lt-leb}
 use Rattle.numerals.specs.Decimal.{between}
 

@@ -4,12 +4,10 @@ use native.Mathlib.Nat.{pow-suc, pow-zero}
 use native.Mathlib.Numerals.{add-one}
 use native.Mathlib.Omega.{arith}
 use mathlib.Core.Path.{_≡_, refl, sym, subst, ap, _∙_}
-use mathlib.Core.Bool.{Bool, true, false}
 use mathlib.Core.List.{List, [], _∷_, _++_, append-nil, append-assoc}
-use lib.ListN.{length, getD, take, drop, set, length-drop}
+use lib.ListN.{length, take, drop, set, length-drop}
 use lib.Seq.{drop-cons, drop-set-lt, getD-set-same, lt-length-set, take-all}
 use borrow.Author.Tests.{lt-ltb, le-ltb}
-use Rattle.lists.specs.Below.{pick}
 use Rattle.lists.proofs.Logic.{pick-true, pick-false}
 use Rattle.numerals.specs.Decimal.{digits, decimal}
 

@@ -4,12 +4,12 @@ use native.Mathlib.Nat.{le-antisymm}
 use native.Mathlib.Numerals.{add-one}
 use native.Mathlib.Omega.{arith}
 use mathlib.Core.Path.{_≡_, refl, sym, ap, subst, _∙_}
-use mathlib.Core.Bool.{Bool, true, false, _&&_, _||_, false≢true}
-use mathlib.Core.List.{List, [], _∷_, _++_}
+use mathlib.Core.Bool.{Bool, true, false, false≢true}
+use mathlib.Core.List.{List}
 use mathlib.Core.Logic.{_⊎_, inl, inr, ⊎-elim}
 use lib.ListN.{length, getD, set, replicate, length-replicate, getD-replicate, replicate-append-replicate}
 use lib.Seq.{sets, length-sets}
-use lib.Dec.{leb, ltb, eqb}
+use lib.Dec.{leb}
 use borrow.Author.Tests.{leb-true, ltb-true, ltb-false, leb-false}
 use Rattle.lists.specs.Below.{any-below}
 use Rattle.lists.proofs.Logic.{and-l, and-r, or-cases, or-false-l, or-false-r, decided}

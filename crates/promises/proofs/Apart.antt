@@ -4,7 +4,7 @@ use mathlib.Core.Path.{_≡_, sym, subst, subst₂}
 use mathlib.Core.Bool.{Bool, true, _&&_}
 use mathlib.Core.List.{List, [], _∷_}
 use Rattle.rules.specs.Act.{World, Out}
-use Rattle.rules.specs.Isolation.{Shaped, face, Related, Alike, Feed, first, second, world, mine, Answers, stays, Keeps, AllFed, AllAlike}
+use Rattle.rules.specs.Isolation.{Shaped, face, Related, Feed, first, second, world, mine, Answers, stays, Keeps, AllFed, AllAlike}
 use Rattle.rules.proofs.Isolated.{isolated}
 use Rattle.promises.specs.Third.{Turn, BothRan, lives, AllFedBy, AllApart}
 use Rattle.promises.proofs.Chain.{chain}

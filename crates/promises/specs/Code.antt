@@ -3,14 +3,11 @@
 -- The chain, once: a sentence of the demands is a statement about the rules' `step` (rules/specs/Act); the contract of `monitor::step` says that the
 -- code leaves what `step` gives (monitor/src/lib.rt); the check proves that contract of the compiled function. So the sentence holds of the code:
 -- `Called` is the contract, and each promise is stated of it.
-use Prim.Native.Nat.{ℕ}
 use mathlib.Core.Path.{_≡_}
-use mathlib.Core.List.{List, [], _∷_}
 use contract.Lifetimes.{Lfts}
 use denote.Ref.{now}
 use denote.Triple.Entry.{Args, Res}
 use denote.Triple.Clauses.{Ended, Lasts, AtExit, atExit}
-use Rattle.state.specs.declared.State.{State}
 use Rattle.rules.specs.Act.{World, Out}
 use Rattle.preserved.specs.Preserved.{Ask}
 use Rattle.monitor.specs.Allowed.{outOf}

@@ -12,7 +12,7 @@ use lib.ListN.{length}
 use Rattle.geometry.specs.Geometry.{slotCount}
 use Rattle.fields.specs.declared.Fields.{Fields}
 use Rattle.manifest.specs.Reader.{readManifest, refusedReading}
-use Rattle.manifest.specs.Writer.{outcomeOf, Wrote, writeManifest}
+use Rattle.manifest.specs.Writer.{outcomeOf, writeManifest}
 use Rattle.manifest.proofs.read as read
 use Rattle.manifest.proofs.write as write
 use Rattle.state.specs.declared.State.{State}

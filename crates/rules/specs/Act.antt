@@ -1,6 +1,6 @@
 -- A plan carried out, and the whole step.
 use Prim.Native.Nat.{ℕ}
-use mathlib.Core.List.{List, [], _∷_, _++_}
+use mathlib.Core.List.{List, [], _++_}
 use lib.ListN.{length, getD, set, replicate}
 use lib.Seq.{sets}
 use Rattle.lists.specs.Bytes.{part, wipe, gather}
@@ -8,11 +8,10 @@ use Rattle.geometry.specs.Geometry.{pageSize, pcrCount}
 use Rattle.memory.specs.Source.{chosenOf}
 use Rattle.sha1.specs.declared.Digest.{Digest}
 use Rattle.sha1.specs.Sha1.{sha1}
-use Rattle.manifest.specs.declared.Reading.{Reading}
 use Rattle.manifest.specs.Reader.{readManifest}
 use Rattle.state.specs.declared.State.{State}
 use Rattle.state.specs.Zero.{zeroPcr, noPcr}
-use Rattle.state.specs.Face.{Face, faceOf, pcrsOf, stateOf}
+use Rattle.state.specs.Face.{faceOf, pcrsOf, stateOf}
 use Rattle.wellformed.specs.WellFormed.{wellFormed}
 use Rattle.events.specs.declared.Event.{Event}
 use Rattle.events.specs.declared.Answer.{Answer}

@@ -1,6 +1,6 @@
 -- The rules of the eleven events (document 01, "Eleven events"): one definition an event, one guard a check, in the order shown.
 use Prim.Native.Nat.{ℕ, _+_}
-use mathlib.Core.Bool.{Bool, true, false, _&&_}
+use mathlib.Core.Bool.{Bool, true, _&&_}
 use lib.Dec.{leb, ltb, eqb}
 use Rattle.lists.specs.Below.{pick}
 use Rattle.geometry.specs.Geometry.{pageSize, slotCount, pcrCount, digestSize, halfPage, pageOf, startOf}
@@ -11,7 +11,6 @@ use Rattle.fields.specs.declared.Entry.{Entry}
 use Rattle.fields.specs.Fields.{entryAt}
 use Rattle.fields.specs.Pages.{pagesOf, paramOf}
 use Rattle.manifest.specs.declared.Reading.{Reading}
-use Rattle.state.specs.declared.Card.{Card}
 use Rattle.state.specs.declared.Mode.{Mode}
 use Rattle.state.specs.declared.Mode.the-variants.{Legacy, Secure}
 use Rattle.state.specs.Zero.{zeroCard, zeroRunning}
@@ -20,7 +19,7 @@ use Rattle.events.specs.declared.Event.{Event}
 use Rattle.events.specs.declared.Event.the-variants.{Register, Unregister, Call, Return, Jump, Read, Write, DeviceRead, DeviceWrite, Extend, PcrRead}
 use Rattle.events.specs.declared.Answer.{Answer}
 use Rattle.events.specs.declared.Answer.the-variants as answer
-use Rattle.rules.specs.Plan.{Fetch, nothing, bytes, pcr, Store, keep, put, move, clean, Seal, same, clear, extend, measure, Plan, refuse, guard, still}
+use Rattle.rules.specs.Plan.{nothing, bytes, pcr, keep, put, move, clean, same, clear, extend, measure, Plan, refuse, guard, still}
 use Rattle.rules.specs.Tests.{Access, read, write, execute, device, mayReach, inRange, unlooked, keptAs, entryOf, underMark, slotFor, freeSlot, allOpen, withCard, withMode}
 
 -- "Release: every byte of all its pages, code too, becomes 0; the pages open; the slot becomes zero, and if it was running, the running record too."

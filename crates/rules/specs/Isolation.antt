@@ -23,8 +23,6 @@ use lib.ListN.{length, getD}
 use lib.Dec.{eqb}
 use Rattle.lists.specs.Bytes.{part}
 use Rattle.geometry.specs.Geometry.{mostPages, slotCount, digestSize, pageOf}
-use Rattle.memory.specs.declared.Source.{Source}
-use Rattle.sha1.specs.declared.Digest.{Digest}
 use Rattle.state.specs.declared.Mode.{Mode}
 use Rattle.state.specs.declared.Mode.the-variants.{Legacy, Secure}
 use Rattle.state.specs.declared.State.{State}
@@ -32,7 +30,6 @@ use Rattle.state.specs.Zero.{noPcr}
 use Rattle.state.specs.Face.{Face, faceOf, pcrsOf, cardAt, ownerAt}
 use Rattle.events.specs.declared.Event.{Event}
 use Rattle.events.specs.declared.Event.the-variants.{Register, Unregister, Call, Return, Jump, Read, Write, DeviceRead, DeviceWrite, Extend, PcrRead}
-use Rattle.events.specs.declared.Answer.{Answer}
 use Rattle.events.specs.declared.Answer.the-variants as answer
 use Rattle.events.specs.Answers.{fills}
 use Rattle.rules.specs.Decide.{outFrom}

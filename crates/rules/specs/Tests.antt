@@ -1,11 +1,11 @@
 -- What the rules ask of a face: the page rule, entries, slots, the face after a change.
 use Prim.Native.Nat.{ℕ, _+_}
-use mathlib.Core.Bool.{Bool, true, false, _&&_, _||_, not}
+use mathlib.Core.Bool.{Bool, _&&_, _||_, not}
 use mathlib.Core.List.{List}
 use lib.ListN.{getD, set}
-use lib.Dec.{leb, ltb, eqb}
+use lib.Dec.{ltb, eqb}
 use Rattle.lists.specs.Below.{pick, all-below, first-below, table}
-use Rattle.geometry.specs.Geometry.{mostPages, slotCount, pageOf, isRange}
+use Rattle.geometry.specs.Geometry.{mostPages, slotCount, isRange}
 use Rattle.fields.specs.declared.Fields.{Fields}
 use Rattle.fields.specs.Fields.{entryAt}
 use Rattle.fields.specs.Rules.{inCode}
@@ -14,7 +14,6 @@ use Rattle.state.specs.declared.Card.{Card}
 use Rattle.state.specs.declared.Mode.{Mode}
 use Rattle.state.specs.declared.Mode.the-variants.{Legacy, Secure}
 use Rattle.state.specs.declared.Running.{Running}
-use Rattle.state.specs.Zero.{zeroCard}
 use Rattle.state.specs.Face.{Face, cardAt, ownerAt, isOpen}
 
 -- ---- the page rule

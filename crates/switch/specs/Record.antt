@@ -7,7 +7,7 @@ use Rattle.state.specs.declared.Mode.the-variants.{Legacy, Secure}
 use Rattle.state.specs.declared.Running.{Running}
 use Rattle.state.specs.Zero.{zeroRunning}
 use Rattle.state.specs.Face.{Face}
-use Rattle.rules.specs.Plan.{Plan, move}
+use Rattle.rules.specs.Plan.{move}
 use Rattle.rules.specs.Tests.{keptAs, withMode}
 use Rattle.rules.specs.Decide.{entered, returnRule, outFrom}
 use Rattle.switch.specs.declared.Left.{Left}

@@ -1,5 +1,5 @@
 -- A twin comes back as it was given; a reply tells its answer.
-use Prim.Native.Nat.{ℕ, _+_, _-_, _≤_, _<_, _^_}
+use Prim.Native.Nat.{ℕ, _-_, _≤_, _<_, _^_}
 use mathlib.Core.Path.{_≡_, refl, sym}
 use mathlib.Core.Bool.{Bool, true, false}
 use native.Mathlib.Omega.{arith}
@@ -8,9 +8,7 @@ use borrow.Author.Tests.{eqb-true, eqb-false, ne-eqb}
 use lib.Dec.{eqb}
 use Rattle.lists.specs.Below.{pick}
 use Rattle.state.specs.declared.Mode.the-variants.{Legacy, Secure}
-use Rattle.events.specs.declared.Answer.{Answer}
 use Rattle.events.specs.declared.Answer.the-variants as answer
-use Rattle.twin.specs.declared.Monitor.{Monitor}
 use Rattle.twin.specs.Twin.{last, modeOf, numberOf}
 use Rattle.twin.specs.Promise.{AsGiven, Told, Answered}
 

@@ -6,7 +6,6 @@ use borrow.Author.Tests.{ne-eqb}
 use Rattle.memory.specs.declared.Source.the-variants as source
 use Rattle.events.specs.declared.Event.the-variants.{Register, Unregister, Call, Return, Jump, Read, Write, DeviceRead, DeviceWrite, Extend, PcrRead}
 use Rattle.twin.specs.declared.Request.{Request}
-use Rattle.twin.specs.declared.Asked.{Asked}
 use Rattle.twin.specs.declared.Asked.the-variants.{Known, Unknown}
 use Rattle.twin.specs.Asked.{extendAs, askedAs, askedOf}
 

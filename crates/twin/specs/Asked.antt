@@ -4,7 +4,6 @@ use mathlib.Core.List.{List}
 use lib.Dec.{eqb}
 use Rattle.lists.specs.Below.{pick}
 use Rattle.memory.specs.declared.Source.the-variants as source
-use Rattle.events.specs.declared.Event.{Event}
 use Rattle.events.specs.declared.Event.the-variants.{Register, Unregister, Call, Return, Jump, Read, Write, DeviceRead, DeviceWrite, Extend, PcrRead}
 use Rattle.events.specs.declared.Answer.{Answer}
 use Rattle.events.specs.declared.Answer.the-variants as answer
@@ -73,9 +72,9 @@ abbrev pub unknownReply : Reply
 unknownReply = reply unknownNumber 0 0
 
 -- a reply, and what stands in the buffer after it
-pub record Answered : Type 0 where
+pub record Said : Type 0 where
   pub reply : Reply
   pub buffer : List ℕ
 
-abbrev pub answered : Reply → List ℕ → Answered
+abbrev pub answered : Reply → List ℕ → Said
 answered r buffer = record { reply = r; buffer = buffer }

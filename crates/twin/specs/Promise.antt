@@ -1,7 +1,6 @@
 -- What the twin promises beyond the contracts.
-use Prim.Native.Nat.{ℕ, _<_, _^_}
+use Prim.Native.Nat.{_<_, _^_}
 use mathlib.Core.Path.{_≡_}
-use mathlib.Core.List.{List, [], _∷_}
 use Rattle.events.specs.declared.Answer.{Answer}
 use Rattle.events.specs.Answers.{toldBy}
 use Rattle.twin.specs.declared.Monitor.{Monitor}

@@ -1,5 +1,5 @@
 -- The state and its twin for C, each out of the other.
-use Prim.Native.Nat.{ℕ, _+_, _-_, _^_}
+use Prim.Native.Nat.{ℕ, _+_, _-_}
 use lib.Dec.{eqb}
 use Rattle.lists.specs.Below.{pick}
 use Rattle.state.specs.declared.State.{State}

@@ -1,33 +1,25 @@
 -- What well-formedness says, as facts, and how facts establish it. What lies above cites these and not the definition's text.
-use Prim.Native.Nat.{ℕ, _+_, _-_, _*_, _≤_, _<_}
+use Prim.Native.Nat.{ℕ, _+_, _-_, _≤_, _<_}
 use native.Mathlib.Omega.{arith}
-use mathlib.Core.Path.{_≡_, refl, sym, ap, subst, _∙_}
-use mathlib.Core.Bool.{Bool, true, false, _&&_, _||_, false≢true}
-use mathlib.Core.List.{List, []}
+use mathlib.Core.Path.{_≡_, refl, sym, subst, _∙_}
+use mathlib.Core.Bool.{true, false, _&&_, false≢true}
 use mathlib.Core.Logic.{_⊎_, inl, inr, ⊎-elim}
-use lib.ListN.{getD}
 use lib.Dec.{leb, ltb, eqb}
-use borrow.Author.Tests.{leb-true, ltb-true, ltb-false, eqb-true, eqb-false, le-leb, lt-ltb, le-ltb, eq-eqb, ne-eqb}
-use Rattle.lists.specs.Below.{pick, all-below, any-below, first-below, sum-below}
-use Rattle.lists.proofs.Logic.{and-l, and-r, both, or-cases, or-left, or-right, decided, lt-or-ge, pick-true, pick-false}
+use borrow.Author.Tests.{leb-true, ltb-true, eqb-true, le-leb, lt-ltb, le-ltb, eq-eqb}
+use Rattle.lists.specs.Below.{all-below, any-below, sum-below}
+use Rattle.lists.proofs.Logic.{and-l, and-r, both, decided, lt-or-ge}
 use Rattle.lists.proofs.All.{all-at, all-of}
-use Rattle.lists.proofs.Any.{Found, any-find, any-hit}
-use Rattle.lists.proofs.First.{first-le, first-at, first-before}
-use Rattle.geometry.specs.Geometry.{leastPages, mostPages, slotCount, isRange, pageOf, startOf}
-use Rattle.sha1.specs.declared.Digest.{Digest}
+use Rattle.lists.proofs.Any.{Found, any-find}
+use Rattle.lists.proofs.First.{first-at, first-before}
+use Rattle.geometry.specs.Geometry.{leastPages, mostPages, slotCount}
 use Rattle.fields.specs.declared.Fields.{Fields}
 use Rattle.fields.specs.Fields.{runAt, endOf}
-use Rattle.fields.specs.Rules.{keepsRules, holds}
+use Rattle.fields.specs.Rules.{keepsRules}
 use Rattle.fields.specs.Pages.{hasPage, pagesUnder, underAt}
 use Rattle.fields.specs.Pages as pages
 use Rattle.state.specs.declared.Card.{Card}
-use Rattle.state.specs.declared.Mode.{Mode}
-use Rattle.state.specs.declared.Mode.the-variants.{Legacy, Secure}
-use Rattle.state.specs.declared.Running.{Running}
-use Rattle.state.specs.declared.State.{State}
-use Rattle.state.specs.Zero.{zeroRunning}
-use Rattle.state.specs.Face.{Face, faceOf, pcrsOf, cardAt, ownerAt, topOf, isOpen}
-use Rattle.wellformed.specs.WellFormed.{sizesRight, memoryRight, fieldsZero, cardZero, pcrsZero, cardRight, cardRightAt, pcrsRightAt, pcrsRight, holdsAt, heldOnce, timesHeld, monitors, holderOf, ownerBy, ownerRightAt, runningZero, outputAt, outRight, runningRight, modeRight, faceRight, stateRight, wellFormed}
+use Rattle.state.specs.Face.{Face, cardAt, ownerAt, topOf, isOpen}
+use Rattle.wellformed.specs.WellFormed.{sizesRight, cardZero, cardRight, cardRightAt, holdsAt, heldOnce, timesHeld, monitors, holderOf, ownerBy, ownerRightAt, modeRight, faceRight}
 use Rattle.wellformed.proofs.Once.{once-sole, sole-once}
 
 -- ---- "P and M are in range"

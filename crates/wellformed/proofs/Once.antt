@@ -1,8 +1,8 @@
 -- A count over the numbers below n is at most one exactly when the test holds of no two of them.
 use Prim.Native.Nat.{ℕ, zero, suc, _+_, _≤_, _<_}
 use native.Mathlib.Omega.{arith}
-use mathlib.Core.Path.{_≡_, refl, sym, _∙_}
-use mathlib.Core.Bool.{Bool, true, false, false≢true}
+use mathlib.Core.Path.{_≡_, refl}
+use mathlib.Core.Bool.{Bool, true}
 use mathlib.Core.Logic.{_⊎_, ⊎-elim}
 use Rattle.lists.specs.Below.{pick, sum-below}
 use Rattle.lists.proofs.Logic.{decided, lt-or-ge}

@@ -1,35 +1,31 @@
 -- The owner table by painting: the monitor's pages and then every slot's runs, painted in turn, are the table that a well-formed state has.
 -- "Every page of slot k has owner k + 1" already says that no page is in two slots.
 use Prim.Native.Nat.{ℕ, zero, suc, _+_, _-_, _≤_, _<_}
-use native.Mathlib.Nat.{le-antisymm}
-use native.Mathlib.Numerals.{add-one}
 use native.Mathlib.Omega.{arith}
-use mathlib.Core.Path.{_≡_, refl, sym, ap, subst, _∙_}
-use mathlib.Core.Bool.{Bool, true, false, _&&_, _||_, false≢true}
-use mathlib.Core.List.{List, []}
+use mathlib.Core.Path.{_≡_, refl, sym, subst, _∙_}
+use mathlib.Core.Bool.{Bool, true, false, _&&_, false≢true}
+use mathlib.Core.List.{List}
 use mathlib.Core.Logic.{_⊎_, inl, inr, ⊎-elim}
 use lib.ListN.{length, getD, replicate, length-replicate, getD-replicate}
 use lib.Dec.{leb, ltb, eqb}
-use lib.Bits.{bitOr}
 use borrow.Author.Tests.{leb-true, ltb-true, eqb-true, le-leb, lt-ltb, eq-eqb}
-use Rattle.lists.specs.Below.{all-below, any-below}
+use Rattle.lists.specs.Below.{all-below}
 use Rattle.lists.proofs.Logic.{and-l, and-r, both, iff, decided, lt-or-ge}
-use Rattle.lists.proofs.All.{all-at, all-of, all-end, or-zero}
+use Rattle.lists.proofs.All.{all-at, all-of}
 use Rattle.lists.proofs.Any.{any-find, any-hit}
 use Rattle.geometry.specs.Geometry.{mostPages, slotCount}
-use Rattle.fields.specs.declared.Run.{Run}
 use Rattle.fields.specs.declared.Fields.{Fields}
 use Rattle.fields.specs.Fields.{noRun, runAt, endOf, runPlaces}
 use Rattle.fields.specs.Pages.{hasPage, pagesUnder, underAt}
 use Rattle.fields.specs.Pages as named
 use Rattle.fields.proofs.Facts.{kept}
 use Rattle.painting.specs.Painting.{painted, paintedRuns, ownedFrom, ownedRun, alike, RunsFit}
-use Rattle.painting.proofs.Painted.{heldAt, painted-long, painted-in, painted-out, runs-long, runs-in, runs-out}
+use Rattle.painting.proofs.Painted.{painted-long, painted-in, painted-out, runs-long, runs-in, runs-out}
 use Rattle.state.specs.declared.Card.{Card}
 use Rattle.state.specs.declared.Mode.the-variants.{Legacy}
 use Rattle.state.specs.Zero.{zeroRunning}
 use Rattle.state.specs.Face.{Face, cardAt, ownerAt, topOf}
-use Rattle.wellformed.specs.WellFormed.{sizesRight, cardZero, cardRight, cardRightAt, holdsAt, heldOnce, monitors, ownerRightAt, modeRight, faceRight}
+use Rattle.wellformed.specs.WellFormed.{sizesRight, cardZero, cardRight, cardRightAt, holdsAt, heldOnce, monitors, ownerRightAt, faceRight}
 use Rattle.wellformed.proofs.Facts.{Sizes, sizes-of, Right, right-of, of-right, card-rules, card-under, card-free, card-holds-under}
 use Rattle.wellformed.proofs.Runs.{zero-running}
 

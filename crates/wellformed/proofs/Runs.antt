@@ -1,16 +1,13 @@
 -- What well-formedness says of the running record, in each mode.
 use Prim.Native.Nat.{ℕ, _+_, _%_, _<_}
-use mathlib.Core.Path.{_≡_, refl, sym, ap, _∙_}
-use mathlib.Core.Bool.{Bool, true, false, _&&_}
+use mathlib.Core.Path.{_≡_, refl, ap, _∙_}
+use mathlib.Core.Bool.{true, _&&_}
 use lib.Dec.{leb, ltb, eqb}
 use borrow.Author.Tests.{ltb-true, eqb-true, lt-ltb, eq-eqb, ne-eqb}
 use mathlib.Core.Logic.{_≢_}
-use Rattle.lists.specs.Below.{pick, any-below}
+use Rattle.lists.specs.Below.{any-below}
 use Rattle.lists.proofs.Logic.{and-l, and-r, both}
-use Rattle.lists.proofs.Any.{Found, any-find, any-hit}
 use Rattle.geometry.specs.Geometry.{pageSize, slotCount, isRange, pageOf}
-use Rattle.fields.specs.declared.Fields.{Fields}
-use Rattle.state.specs.declared.Mode.{Mode}
 use Rattle.state.specs.declared.Mode.the-variants.{Legacy, Secure}
 use Rattle.state.specs.declared.Running.{Running}
 use Rattle.state.specs.Zero.{zeroRunning}

@@ -1,19 +1,17 @@
 -- What the code tests slot by slot is what the definition asks of the cards and of the µPCRs.
-use Prim.Native.Nat.{ℕ, zero, suc, _+_, _-_, _%_, _≤_, _<_}
+use Prim.Native.Nat.{ℕ, zero, suc, _-_, _%_, _≤_, _<_}
 use native.Mathlib.Numerals.{add-one}
 use native.Mathlib.Omega.{arith}
-use mathlib.Core.Path.{_≡_, refl, sym, ap, subst, _∙_}
+use mathlib.Core.Path.{_≡_, refl, sym, ap, _∙_}
 use mathlib.Core.Bool.{Bool, true, false, _&&_, _||_}
-use mathlib.Core.List.{List, []}
 use mathlib.Core.Logic.{⊎-elim}
 use lib.ListN.{getD}
 use lib.Dec.{leb, eqb, ltb}
 use borrow.Author.Tests.{eqb-true, ltb-true, leb-true, le-leb, le-ltb}
-use Rattle.lists.specs.Below.{all-below, any-below}
+use Rattle.lists.specs.Below.{all-below}
 use Rattle.lists.proofs.Logic.{and-l, and-r, both, iff, decided, lt-or-ge}
 use Rattle.lists.proofs.All.{all-at, all-of, all-same}
 use Rattle.geometry.specs.Geometry.{slotCount, mostPages}
-use Rattle.sha1.specs.declared.Digest.{Digest}
 use Rattle.fields.specs.declared.Fields.{Fields}
 use Rattle.fields.specs.Fields.{entryPlaces, runAt, endOf}
 use Rattle.fields.specs.Rules.{keepsRules}
@@ -25,7 +23,7 @@ use Rattle.state.specs.declared.State.{State}
 use Rattle.state.specs.declared.Mode.{Mode}
 use Rattle.state.specs.declared.Mode.the-variants.{Legacy, Secure}
 use Rattle.state.specs.Zero.{noSlot}
-use Rattle.state.specs.Face.{Face, faceOf, pcrsOf, cardAt, topOf}
+use Rattle.state.specs.Face.{faceOf, pcrsOf, cardAt, topOf}
 use Rattle.state.proofs.Faces.{card-at, pcrs-at}
 use Rattle.wellformed.specs.WellFormed.{cardZero, cardRight, cardRightAt, pcrsZero, pcrsRightAt, pcrsRight, sizesRight, heldOnce, ownerRightAt, modeRight, faceRight, stateRight}
 use Rattle.wellformed.specs.Tests.{slotRight, slotRightAt, modeTest}

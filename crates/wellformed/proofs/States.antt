@@ -1,12 +1,10 @@
 -- What well-formedness says of a whole state: its face, its µPCRs and the memory's length.
 use Prim.Native.Nat.{ℕ, _<_}
-use mathlib.Core.Path.{_≡_, refl, sym, _∙_}
-use mathlib.Core.Bool.{Bool, true, false, _&&_, _||_}
+use mathlib.Core.Path.{_≡_}
+use mathlib.Core.Bool.{true, false}
 use mathlib.Core.List.{List, []}
 use lib.ListN.{getD}
-use lib.Dec.{eqb}
 use borrow.Author.Tests.{eqb-true, eq-eqb}
-use Rattle.lists.specs.Below.{all-below}
 use Rattle.lists.proofs.Logic.{and-l, and-r, both, or-left, or-right, decided}
 use Rattle.lists.proofs.All.{all-at, all-of}
 use Rattle.geometry.specs.Geometry.{slotCount, startOf}

@@ -3,7 +3,7 @@ use Prim.Native.Nat.{ℕ, _+_, _-_, _%_, _≤_, _<_}
 use native.Mathlib.Nat.{le-antisymm}
 use native.Mathlib.Numerals.{add-one}
 use native.Mathlib.Omega.{arith}
-use mathlib.Core.Path.{_≡_, refl, sym, ap, subst, _∙_}
+use mathlib.Core.Path.{_≡_, sym, ap, subst, _∙_}
 use mathlib.Core.Bool.{Bool, true, false, _&&_, and-false}
 use mathlib.Core.List.{List}
 use lib.ListN.{getD, replicate}
@@ -20,9 +20,9 @@ use Rattle.state.specs.declared.State.{State}
 use Rattle.state.specs.Zero.{noSlot}
 use Rattle.state.specs.Face.{faceOf}
 use Rattle.state.proofs.Faces.{card-at}
-use Rattle.wellformed.specs.WellFormed.{cardRight, sizesRight, monitors, stateRight}
+use Rattle.wellformed.specs.WellFormed.{cardRight, monitors, stateRight}
 use Rattle.wellformed.specs.Tests.{slotRightAt, modeTest}
-use Rattle.wellformed.proofs.Facts.{Sizes, sizes-hold, sizes-of}
+use Rattle.wellformed.proofs.Facts.{Sizes, sizes-of}
 use Rattle.wellformed.proofs.Pages.{fieldsAt, paintedTo, ownedSlot, pagesFast, runs-fit, pages-same}
 use Rattle.wellformed.proofs.Slots.{cards-of, card-of, entries-few, mode-same, state-parts}
 

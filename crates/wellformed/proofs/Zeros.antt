@@ -1,16 +1,15 @@
 -- The zero tests and the zero values: what passes is the value, given its shape, and the value passes.
-use Prim.Native.Nat.{ℕ, zero, suc, _<_}
-use native.Mathlib.Omega.{arith}
+use Prim.Native.Nat.{ℕ, _<_}
 use mathlib.Core.Path.{_≡_, refl, sym, ap, _∙_}
 use mathlib.Core.Bool.{Bool, true, false, _&&_}
-use mathlib.Core.List.{List, []}
+use mathlib.Core.List.{List}
 use lib.ListN.{length, getD, replicate, length-replicate, getD-replicate}
 use lib.Seq.{ext-getD}
 use lib.Dec.{eqb}
-use borrow.Author.Tests.{eqb-true, eq-eqb}
+use borrow.Author.Tests.{eqb-true}
 use Rattle.lists.specs.Below.{all-below}
-use Rattle.lists.proofs.Logic.{and-l, and-r, both}
-use Rattle.lists.proofs.All.{all-at, all-of}
+use Rattle.lists.proofs.Logic.{and-l, and-r}
+use Rattle.lists.proofs.All.{all-at}
 use Rattle.geometry.specs.Geometry.{pcrCount, digestSize}
 use Rattle.sha1.specs.declared.Digest.{Digest}
 use Rattle.fields.specs.declared.Run.{Run}

@@ -1,6 +1,6 @@
 -- What the test hands out.
 use Prim.Native.Nat.{ℕ, _%_}
-use mathlib.Core.Bool.{Bool, true, false}
+use mathlib.Core.Bool.{true, false}
 use lib.ListN.{getD}
 use Rattle.lists.specs.Below.{pick}
 use Rattle.geometry.specs.Geometry.{slotCount}

@@ -1,18 +1,17 @@
 -- "A state is well formed when": document 01's paragraph, clause by clause, in its order.
-use Prim.Native.Nat.{ℕ, _+_, _-_, _*_}
-use mathlib.Core.Bool.{Bool, true, false, _&&_, _||_, not}
+use Prim.Native.Nat.{ℕ, _+_, _-_}
+use mathlib.Core.Bool.{Bool, _&&_, _||_}
 use mathlib.Core.List.{List, []}
 use lib.ListN.{getD}
 use lib.Dec.{leb, ltb, eqb}
 use Rattle.lists.specs.Below.{pick, all-below, any-below, first-below, sum-below}
-use Rattle.geometry.specs.Geometry.{pageSize, leastPages, mostPages, slotCount, pcrCount, digestSize, isRange, pageOf, startOf}
+use Rattle.geometry.specs.Geometry.{leastPages, mostPages, slotCount, pcrCount, digestSize, isRange, pageOf, startOf}
 use Rattle.sha1.specs.declared.Digest.{Digest}
 use Rattle.fields.specs.declared.Fields.{Fields}
 use Rattle.fields.specs.Fields.{runPlaces, entryPlaces, entryAt, runAt}
 use Rattle.fields.specs.Rules.{runZero, entryZero, keepsRules}
 use Rattle.fields.specs.Pages.{hasPage, pagesUnder}
 use Rattle.state.specs.declared.Card.{Card}
-use Rattle.state.specs.declared.Slot.{Slot}
 use Rattle.state.specs.declared.Mode.{Mode}
 use Rattle.state.specs.declared.Mode.the-variants.{Legacy, Secure}
 use Rattle.state.specs.declared.Running.{Running}

@@ -5,7 +5,6 @@ use lib.ListN.{length, length-set}
 use Rattle.lists.specs.Below.{table}
 use Rattle.devicemap.specs.Map.{byteIn}
 use Rattle.devicemap.proofs.Maps.{fill-none, fill-more}
-use borrow.Author.Needs.{needs}
 use native.Mathlib.Omega.{arith}
 use Rattle.devicemap.proofs.fill.Statement.{statement}
 use Rattle.devicemap.proofs.fill.Tie as tie

@@ -1,6 +1,5 @@
 use native.Mathlib.Omega.{arith}
 use borrow.Author.Tests.{lt-ltb, le-ltb, eq-eqb, ne-eqb}
-use borrow.Author.Needs.{needs}
 use Rattle.devicemap.proofs.shut.Statement.{statement}
 use Rattle.devicemap.proofs.shut.Tie as tie
 

@@ -1,4 +1,4 @@
-use mathlib.Core.Path.{_≡_, sym, ap, subst, _∙_}
+use mathlib.Core.Path.{sym, ap, subst, _∙_}
 use Rattle.twin.specs.Twin.{shutOf}
 use Rattle.state.specs.declared.State.{State}
 use Rattle.change.specs.Turns.{changedBy, Fits}

@@ -1,9 +1,6 @@
 use borrow.Author.Needs.{needs}
 use Rattle.keeps.proofs.code_holds.Statement.{statement}
 use Rattle.keeps.proofs.code_holds.Tie as tie
-use Rattle.keeps.proofs.code_holds.Reads as reads
-use Rattle.keeps.proofs.code_holds.Lts as lts
-use Rattle.keeps.proofs.run_end.Reads as run-end-reads
 
 run-end-requires : tie.Need-run-end-requires
 run-end-requires c κs = search needs

@@ -14,9 +14,6 @@ use borrow.Author.Needs.{needs}
 use native.Mathlib.Omega.{arith}
 use Rattle.keeps.proofs.code_if.Statement.{statement}
 use Rattle.keeps.proofs.code_if.Tie as tie
-use Rattle.keeps.proofs.code_if.Reads as reads
-use Rattle.keeps.proofs.code_if.Lts as lts
-use Rattle.keeps.proofs.code_holds.Reads as code-holds-reads
 
 -- the run stands in a used place, is code and has the page
 abbrev usedAt : ℕ → List Run → ℕ → ℕ → Bool

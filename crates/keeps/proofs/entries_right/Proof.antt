@@ -10,11 +10,6 @@ use borrow.Author.Needs.{needs}
 use native.Mathlib.Omega.{arith}
 use Rattle.keeps.proofs.entries_right.Statement.{statement}
 use Rattle.keeps.proofs.entries_right.Tie as tie
-use Rattle.keeps.proofs.entries_right.Reads as reads
-use Rattle.keeps.proofs.entries_right.Lts as lts
-use Rattle.geometry.proofs.Geometry.page_of.Reads as page-of-reads
-use Rattle.keeps.proofs.code_if.Reads as code-if-reads
-use Rattle.keeps.proofs.lengths_right.Reads as lengths-right-reads
 
 abbrev Inv-loop : tie.InvT-loop
 Inv-loop r e runs entries least₀ i₀ least i = (i ≤ e) × Entries (fieldsOf r e runs entries) i least

@@ -1,10 +1,7 @@
 use borrow.Author.Needs.{needs}
 use borrow.Author.Tests.{eq-eqb, ne-eqb}
-use mathlib.Core.Path.{_≡_, refl, sym, _∙_, ap}
 use Rattle.keeps.proofs.if_param.Statement.{statement}
 use Rattle.keeps.proofs.if_param.Tie as tie
-use Rattle.keeps.proofs.if_param.Reads as reads
-use Rattle.keeps.proofs.if_param.Lts as lts
 
 returns : tie.Need-returns
 returns c = (rw (eq-eqb _ _ (c .if1 .taken)), search needs)

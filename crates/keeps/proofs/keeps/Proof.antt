@@ -1,21 +1,14 @@
 use Rattle.fields.proofs.Facts.{Counts, counts}
 use mathlib.Core.Bool.{true}
 use borrow.Author.Tests.{not-true, not-false}
-use Rattle.fields.specs.Rules.{countsRight, runsRight, runsRise, pagesFew, someCode, oneParam, runRightAt, inCode, entriesRight, entriesRise, unusedZero, keepsRules}
+use Rattle.fields.specs.Rules.{countsRight, runsRight, runsRise, pagesFew, someCode, oneParam, inCode, entriesRight, entriesRise, unusedZero, keepsRules}
 use Rattle.fields.specs.Fields.{fieldsOf}
 use mathlib.Core.List.{[]}
 use native.Mathlib.Omega.{arith}
-use mathlib.Core.Path.{_≡_, refl, sym, _∙_, ap}
+use mathlib.Core.Path.{_≡_, sym, _∙_}
 use borrow.Author.Needs.{needs}
 use Rattle.keeps.proofs.keeps.Statement.{statement}
 use Rattle.keeps.proofs.keeps.Tie as tie
-use Rattle.keeps.proofs.keeps.Reads as reads
-use Rattle.keeps.proofs.keeps.Lts as lts
-use Rattle.keeps.proofs.counts_right.Reads as counts-right-reads
-use Rattle.keeps.proofs.entries_right.Reads as entries-right-reads
-use Rattle.keeps.proofs.entries_unused.Reads as entries-unused-reads
-use Rattle.keeps.proofs.runs_right.Reads as runs-right-reads
-use Rattle.keeps.proofs.runs_unused.Reads as runs-unused-reads
 
 counts-right-requires : tie.Need-counts-right-requires
 counts-right-requires c κs = search needs

@@ -3,8 +3,6 @@ use native.Mathlib.Omega.{arith}
 use borrow.Author.Tests.{le-leb, lt-leb}
 use Rattle.keeps.proofs.known_kind.Statement.{statement}
 use Rattle.keeps.proofs.known_kind.Tie as tie
-use Rattle.keeps.proofs.known_kind.Reads as reads
-use Rattle.keeps.proofs.known_kind.Lts as lts
 
 returns : tie.Need-returns
 returns c = let k = c .before .before .args .kind in simp (le-leb 1 k (omega arith), le-leb k 4 (omega arith))

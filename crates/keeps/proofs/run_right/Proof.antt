@@ -1,10 +1,6 @@
 use borrow.Author.Needs.{needs}
 use Rattle.keeps.proofs.run_right.Statement.{statement}
 use Rattle.keeps.proofs.run_right.Tie as tie
-use Rattle.keeps.proofs.run_right.Reads as reads
-use Rattle.keeps.proofs.run_right.Lts as lts
-use Rattle.keeps.proofs.known_kind.Reads as known-kind-reads
-use Rattle.keeps.proofs.run_end.Reads as run-end-reads
 
 known-kind-requires : tie.Need-known-kind-requires
 known-kind-requires c κs = search needs

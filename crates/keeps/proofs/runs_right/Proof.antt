@@ -6,11 +6,6 @@ use borrow.Author.Needs.{needs}
 use native.Mathlib.Omega.{arith}
 use Rattle.keeps.proofs.runs_right.Statement.{statement}
 use Rattle.keeps.proofs.runs_right.Tie as tie
-use Rattle.keeps.proofs.runs_right.Reads as reads
-use Rattle.keeps.proofs.runs_right.Lts as lts
-use Rattle.keeps.proofs.if_param.Reads as if-param-reads
-use Rattle.keeps.proofs.run_end.Reads as run-end-reads
-use Rattle.keeps.proofs.run_right.Reads as run-right-reads
 
 abbrev Inv-loop : tie.InvT-loop
 Inv-loop r runs each₀ rise₀ at₀ held₀ code₀ params₀ pages₀ i₀ each rise at held code params pages i =

@@ -1,6 +1,6 @@
 use mathlib.Core.Path.{_≡_, refl}
 use mathlib.Core.List.{_++_}
-use Prim.Native.Nat.{ℕ, _≤_, _<_, _+_, _^_}
+use Prim.Native.Nat.{_≤_, _<_, _+_, _^_}
 use lib.ListN.{length, drop, replicate, length-set}
 use Rattle.numerals.specs.Decimal.{digits, decimal}
 use Rattle.numerals.proofs.Writing.{more-places, digits-turn, fewer-places, digits-end, digits-start, fits-twenty}

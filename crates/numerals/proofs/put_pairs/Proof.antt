@@ -1,10 +1,9 @@
 use mathlib.Core.Path.{_≡_, refl, sym, _∙_}
-use Prim.Native.Nat.{ℕ, _≤_, _-_, _*_, _+_}
+use Prim.Native.Nat.{_≤_, _-_, _*_, _+_}
 use lib.ListN.{length, drop, length-set}
 use lib.Seq.{sets}
 use Rattle.numerals.specs.Hex.{pairs}
 use Rattle.numerals.proofs.Hexed.{pairs-turn, pairs-end}
-use borrow.Author.Needs.{needs}
 use native.Mathlib.Omega.{arith}
 use Rattle.numerals.proofs.put_pairs.Statement.{statement}
 use Rattle.numerals.proofs.put_pairs.Tie as tie

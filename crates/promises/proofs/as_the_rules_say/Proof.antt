@@ -1,5 +1,5 @@
 -- `promises::as_the_rules_say` keeps its promise: each part is a theorem of a crate below, along the chain.
-use mathlib.Core.Path.{_≡_, sym, subst}
+use mathlib.Core.Path.{sym, subst}
 use mathlib.Core.List.{[], _∷_}
 use Rattle.rules.specs.Act.{Out}
 use Rattle.preserved.specs.Preserved.{Well}

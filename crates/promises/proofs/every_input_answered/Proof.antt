@@ -1,6 +1,5 @@
 -- `promises::every_input_answered` keeps its promise: each part is a theorem of a crate below, along the chain.
-use Prim.Native.Nat.{ℕ, _≤_}
-use mathlib.Core.Path.{_≡_, sym, ap, subst, _∙_}
+use mathlib.Core.Path.{sym, ap, subst, _∙_}
 use mathlib.Core.Logic.{_≢_}
 use Rattle.events.specs.Answers.{toldBy}
 use Rattle.rules.specs.Act.{Out}

@@ -1,5 +1,4 @@
 -- `unique::board_unique` keeps its promise: each contract is an equation with a definition, and what is known whole is known part by part.
-use mathlib.Core.Path.{refl}
 use Rattle.unique.proofs.Same.{both, result, digest}
 use Rattle.unique.proofs.board_unique.Statement.{statement}
 use Rattle.unique.proofs.board_unique.Tie as tie

@@ -1,9 +1,7 @@
 use borrow.Author.Needs.{needs}
-use Prim.Native.Nat.{ℕ, _≤_, _-_, _+_}
-use mathlib.Core.Path.{_≡_, refl, sym, _∙_}
-use lib.Dec.{eqb}
-use lib.ListN.{getD}
-use Rattle.lists.specs.Below.{all-below, any-below}
+use Prim.Native.Nat.{_≤_, _-_}
+use mathlib.Core.Path.{_≡_, refl}
+use Rattle.lists.specs.Below.{any-below}
 use mathlib.Core.List.{[]}
 use Rattle.fields.specs.Fields.{fieldsOf}
 use Rattle.lists.proofs.Any.{any-none, any-step, any-end}

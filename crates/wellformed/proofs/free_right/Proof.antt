@@ -1,6 +1,6 @@
 use borrow.Author.Needs.{needs}
 use mathlib.Core.List.{[]}
-use mathlib.Core.Path.{_≡_, _∙_}
+use mathlib.Core.Path.{_∙_}
 use Rattle.fields.specs.Fields.{fieldsOf, runPlaces, entryPlaces}
 use Rattle.wellformed.specs.WellFormed.{runZeroAt, entryZeroAt}
 use Rattle.wellformed.proofs.Slots.{all-unused}

@@ -5,10 +5,6 @@ use Rattle.wellformed.specs.Tests.{modeTest}
 use borrow.Author.Needs.{needs}
 use Rattle.wellformed.proofs.mode_right.Statement.{statement}
 use Rattle.wellformed.proofs.mode_right.Tie as tie
-use Rattle.wellformed.proofs.mode_right.Reads as reads
-use Rattle.wellformed.proofs.mode_right.Lts as lts
-use Rattle.wellformed.proofs.running_zero.Reads as running-zero-reads
-use Rattle.wellformed.proofs.secure_right.Reads as secure-right-reads
 
 enum-told : tie.Need-enum-told
 enum-told c = search needs

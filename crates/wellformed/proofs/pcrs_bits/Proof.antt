@@ -1,10 +1,8 @@
-use Prim.Native.Nat.{ℕ, _≤_, _-_, _+_}
-use mathlib.Core.Path.{_≡_, refl, sym, _∙_}
+use Prim.Native.Nat.{_≤_, _-_}
+use mathlib.Core.Path.{_≡_}
 use lib.Dec.{eqb}
-use lib.ListN.{getD}
-use Rattle.lists.specs.Below.{all-below, any-below}
-use mathlib.Core.List.{[]}
-use Rattle.lists.proofs.All.{all-none, all-step, all-end, bits-none, bits-step}
+use Rattle.lists.specs.Below.{all-below}
+use Rattle.lists.proofs.All.{all-end, bits-none, bits-step}
 use Rattle.wellformed.specs.WellFormed.{pcrZeroAt, pcrsZero}
 use borrow.Author.Needs.{needs}
 use native.Mathlib.Omega.{arith}

@@ -1,10 +1,6 @@
 use borrow.Author.Needs.{needs}
 use Rattle.wellformed.proofs.secure_right.Statement.{statement}
 use Rattle.wellformed.proofs.secure_right.Tie as tie
-use Rattle.wellformed.proofs.secure_right.Reads as reads
-use Rattle.wellformed.proofs.secure_right.Lts as lts
-use Rattle.wellformed.proofs.any_output.Reads as any-output-reads
-use Rattle.wellformed.proofs.out_right.Reads as out-right-reads
 
 any-output-requires : tie.Need-any-output-requires
 any-output-requires c κs = search needs

@@ -18,15 +18,6 @@ use borrow.Author.Needs.{needs}
 use native.Mathlib.Omega.{arith}
 use Rattle.wellformed.proofs.seen.Statement.{statement}
 use Rattle.wellformed.proofs.seen.Tie as tie
-use Rattle.wellformed.proofs.seen.Reads as reads
-use Rattle.wellformed.proofs.seen.Lts as lts
-use Rattle.painting.proofs.differ.Reads as differ-reads
-use Rattle.painting.proofs.paint.Reads as paint-reads
-use Rattle.painting.proofs.paint_runs.Reads as paint-runs-reads
-use Rattle.painting.proofs.runs_off.Reads as runs-off-reads
-use Rattle.wellformed.proofs.mode_right.Reads as mode-right-reads
-use Rattle.wellformed.proofs.sizes_right.Reads as sizes-right-reads
-use Rattle.wellformed.proofs.slot_right.Reads as slot-right-reads
 
 abbrev Inv-loop : tie.InvT-loop
 Inv-loop n page other s top t₀ bad₀ k₀ t bad k = (k ≤ slotCount) × Gone s t bad k

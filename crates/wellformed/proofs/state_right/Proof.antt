@@ -4,9 +4,6 @@ use Rattle.wellformed.proofs.Sights.{seen-right}
 use borrow.Author.Needs.{needs}
 use Rattle.wellformed.proofs.state_right.Statement.{statement}
 use Rattle.wellformed.proofs.state_right.Tie as tie
-use Rattle.wellformed.proofs.state_right.Reads as reads
-use Rattle.wellformed.proofs.state_right.Lts as lts
-use Rattle.wellformed.proofs.seen.Reads as seen-reads
 
 seen-requires : tie.Need-seen-requires
 seen-requires c κs = search needs

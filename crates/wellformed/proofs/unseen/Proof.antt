@@ -4,9 +4,6 @@ use Rattle.state.specs.declared.Slot.{Slot}
 use borrow.Author.Needs.{needs}
 use Rattle.wellformed.proofs.unseen.Statement.{statement}
 use Rattle.wellformed.proofs.unseen.Tie as tie
-use Rattle.wellformed.proofs.unseen.Reads as reads
-use Rattle.wellformed.proofs.unseen.Lts as lts
-use Rattle.state.proofs.Slot.zero.Reads as zero-reads
 
 zero-requires : tie.Need-zero-requires
 zero-requires c κs = search needs

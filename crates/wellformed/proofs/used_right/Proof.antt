@@ -1,7 +1,6 @@
 use Prim.Native.Nat.{_-_}
-use mathlib.Core.Path.{_≡_, sym, ap, _∙_}
+use mathlib.Core.Path.{_≡_, sym, _∙_}
 use mathlib.Core.Bool.{true, false}
-use lib.Dec.{leb}
 use borrow.Author.Tests.{not-true, not-false}
 use Rattle.fields.specs.Fields.{fieldsOf}
 use Rattle.fields.specs.Rules.{keepsRules}
@@ -11,10 +10,6 @@ use native.Mathlib.Omega.{arith}
 use borrow.Author.Needs.{needs}
 use Rattle.wellformed.proofs.used_right.Statement.{statement}
 use Rattle.wellformed.proofs.used_right.Tie as tie
-use Rattle.wellformed.proofs.used_right.Reads as reads
-use Rattle.wellformed.proofs.used_right.Lts as lts
-use Rattle.keeps.proofs.keeps.Reads as keeps-reads
-use Rattle.keeps.proofs.run_end.Reads as run-end-reads
 
 keeps-requires : tie.Need-keeps-requires
 keeps-requires c κs = search needs
