@@ -24,7 +24,8 @@ if [ "$(uname -m)" != x86_64 ]; then
 fi
 install "$gcc" gcc
 
-# the same code and proofs, and what monitor_event does, by value
+# the same code and proofs, and the monitor's step by value
+sed -i 's/^host: /host: touch monitor /' crates.txt
 cat >>crates/host/src/lib.rt <<'END'
 
 #[repr(C)]
@@ -35,15 +36,22 @@ pub struct Outcome {
 
 #[no_mangle]
 pub extern "C" fn stepped(m: Monitor, q: Request, payload: &[u8], memory: &mut [u8], buffer: &mut [u8]) -> Outcome {
-    let x = looked(m, q);
-    let h = hear(m, q, x, payload, memory, buffer);
-    let reply = h.reply;
-    if !h.moved {
-        return Outcome { monitor: m, reply: reply };
+    let a = twin::event_asked(q);
+    match a {
+        Asked::Known(e) => {
+            let s = twin::opened(m);
+            let r = monitor::step(e, payload, s, memory, buffer);
+            let answer = r.answer;
+            let state = r.state;
+            let next = twin::shut(state);
+            let reply = twin::replied(answer);
+            Outcome { monitor: next, reply: reply }
+        }
+        Asked::Unknown => {
+            let reply = twin::not_asked();
+            Outcome { monitor: m, reply: reply }
+        }
     }
-    let c = h.change;
-    let t = renewed(m, c);
-    Outcome { monitor: t, reply: reply }
 }
 END
 host/archive.sh >archive.log || { cat archive.log; exit 1; }

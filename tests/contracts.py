@@ -2,7 +2,7 @@
 
 - A function that returns something, or takes a `&mut`, has an `ensures`.
 - A function that has a `requires` stands in docs/PROMISES.md, "What inner functions ask", and every function that stands there has one. An entry point,
-  which is any function of the crates ENTRY but those of INNER, refuses bad input and asks nothing.
+  which is any function of the crates ENTRY, refuses bad input and asks nothing.
 - A function of a library that is no promise (`fn laws() ensures ..`) has its theorem of one outcome in the specs of crate unique; where that is of a part of the
   outcome only, the function stands in docs/PROMISES.md, "Exceptions to one outcome".
 """
@@ -13,7 +13,6 @@ import sys
 ROOT = pathlib.Path(__file__).resolve().parent.parent
 HEAD = re.compile(r'\bpub\s+(?:extern\s+"C"\s+)?fn\s+(\w+)')
 ENTRY = {"start", "start_c", "monitor", "manifest", "manifest_c", "devicemap", "devicemap_c", "sha1", "sha1_c", "switch", "wellformed", "wellformed_c", "twin", "host"}
-INNER = {"monitor::decided"}  # public for `host`, which hands it what `looked` told; `monitor::step` is the entry point
 IMPL = re.compile(r"^impl\s+(\w+)", re.M)
 
 
@@ -80,7 +79,7 @@ def main():
                 faults.append(f"{where}: no `ensures`")
             if "requires" in clauses:
                 asking.add(f"{crate}::{name}")
-                if crate in ENTRY and f"{crate}::{name}" not in INNER:
+                if crate in ENTRY:
                     faults.append(f"{where}: an entry point with a `requires`")
             module = "" if path.stem in ("lib", "main") else path.stem + "."
             place = f"Rattle.{crate}.proofs.{module}{owner + '.' if owner else ''}{name}"

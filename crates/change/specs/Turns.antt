@@ -1,6 +1,6 @@
 -- What becomes of the state: each turn, and the state after it.
 use Prim.Native.Nat.{ℕ, _+_, _<_}
-use mathlib.Core.Bool.{Bool, true, false}
+use mathlib.Core.Bool.{true}
 use mathlib.Core.List.{List}
 use lib.ListN.{getD, set}
 use Rattle.geometry.specs.Geometry.{slotCount, pcrCount}
@@ -26,7 +26,6 @@ use Rattle.touch.specs.Carried.{Steps}
 use Rattle.change.specs.declared.Turn.{Turn}
 use Rattle.change.specs.declared.Turn.the-variants.{Kept, Enters, Leaves, Frees, Extends, Enrolls}
 use Rattle.change.specs.declared.Change.{Change}
-use Rattle.change.specs.declared.Steer.{Steer}
 
 -- the state in another mode, with another running record
 abbrev pub inMode : State → Mode → Running → State
@@ -60,30 +59,6 @@ changedBy s (Leaves y) x d = inMode s Legacy y
 changedBy s (Frees k) x d = vacated s k
 changedBy s (Extends k i) x d = withPcr s k i d
 changedBy s (Enrolls k mark) x d = enrolledState s k mark x d
-
--- the state does not stay
-abbrev pub moves : Turn → Bool
-moves Kept = false
-moves (Enters y) = true
-moves (Leaves y) = true
-moves (Frees k) = true
-moves (Extends k i) = true
-moves (Enrolls k mark) = true
-
-abbrev pub steered : Mode → Running → Steer
-steered m x = record { steers = true; mode = m; running = x }
-
-abbrev pub unsteered : Steer
-unsteered = record { steers = false; mode = Legacy; running = zeroRunning }
-
--- the mode and the running record after a turn that changes these two alone
-abbrev pub steering : Turn → Steer
-steering Kept = unsteered
-steering (Enters y) = steered (Secure (y .slot)) y
-steering (Leaves y) = steered Legacy y
-steering (Frees k) = unsteered
-steering (Extends k i) = unsteered
-steering (Enrolls k mark) = unsteered
 
 -- the answer, and the state after the change
 abbrev pub settled : State → Change → Stepped

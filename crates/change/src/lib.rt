@@ -1,12 +1,10 @@
-// What an event leaves: its answer, and what becomes of the state. Events look at the state and say what becomes of it; the next state is put
-// together here alone, so that no event copies the state.
+// What an event leaves: its answer, and what becomes of the state. Events look at the state and say what becomes of it; what each turn stores is said
+// here alone, for a state by value (`changed`) and, part by part, for one that is lent. So no event copies the state.
 ghost use mathlib.Core.Path.{_≡_};
 ghost use Prim.Native.Nat.{_<_};
-ghost use Rattle.geometry.specs.Geometry.{slotCount, pcrCount};
-ghost use Rattle.painting.specs.Painting.{RunsFit};
-ghost use lib.ListN.{getD};
-ghost use Rattle.state.specs.Zero.{noSlot};
+ghost use Rattle.geometry.specs.Geometry.{slotCount};
 ghost use Rattle.change.specs.Turns as Turns;
+ghost use Rattle.change.specs.Parts as Parts;
 use events::Answer;
 use fields::Fields;
 use geometry::Geometry;
@@ -34,11 +32,24 @@ pub struct Change {
     pub digest: Digest,
 }
 
-// The mode and the running record after a turn that changes these two alone.
+// What a turn stores, part by part, so that a state that is lent is changed where it stands: the mode and the running record,
 pub struct Steer {
     pub steers: bool,
     pub mode: Mode,
     pub running: Running,
+}
+
+// a slot, by its number,
+pub struct Place {
+    pub seats: bool,
+    pub number: usize,
+}
+
+// what stands in it afterwards, and the owner that the pages of the fields' runs get.
+pub struct Seat {
+    pub slot: Slot,
+    pub fields: Fields,
+    pub owner: u8,
 }
 
 pub fn turned(answer: Answer, turn: Turn) -> Change
@@ -89,116 +100,8 @@ pub fn enrolling(k: usize, mark: u64, fields: Fields, digest: Digest) -> Change
     }
 }
 
-fn in_mode(s: State, mode: Mode, running: Running) -> State
-    ensures { λ r. ⌜ r ≡ Turns.inMode s mode running ⌝ }
-{
-    let owner = s.owner;
-    let slots = s.slots;
-    State {
-        pages: s.pages,
-        kept: s.kept,
-        owner: owner,
-        slots: slots,
-        mode: mode,
-        running: running,
-    }
-}
-
-fn seated(s: State, k: usize, slot: Slot, fields: Fields, v: u8) -> State
-    requires { ⌜ (k < slotCount) × RunsFit (fields .r) (fields .runs) ⌝ }
-    ensures { λ r. ⌜ r ≡ Turns.seated s k slot fields v ⌝ }
-{
-    let n = fields.r;
-    let runs = fields.runs;
-    let mut t = s;
-    painting::paint_runs(&mut t.owner, n, runs, v);
-    t.slots[k] = slot;
-    t
-}
-
-// "Release: .. the pages open; the slot becomes zero, and if it was running, the running record too."
-fn vacated(s: State, k: usize) -> State
-    requires { ⌜ (k < slotCount) × RunsFit (getD (s .slots) k noSlot .card .fields .r) (getD (s .slots) k noSlot .card .fields .runs) ⌝ }
-    ensures { λ r. ⌜ r ≡ Turns.vacated s k ⌝ }
-{
-    let mut t = s;
-    let slot = t.slots[k];
-    let fields = slot.card.fields;
-    let n = fields.r;
-    let runs = fields.runs;
-    painting::paint_runs(&mut t.owner, n, runs, 0);
-    t.slots[k] = slot.cleared();
-    in_mode(
-        t,
-        Mode::Legacy,
-        Running {
-            slot: 0,
-            out: 0,
-            length: 0,
-        },
-    )
-}
-
-fn with_pcr(s: State, k: usize, index: usize, digest: Digest) -> State
-    requires { ⌜ (k < slotCount) × (index < pcrCount) ⌝ }
-    ensures { λ r. ⌜ r ≡ Turns.withPcr s k index digest ⌝ }
-{
-    let mut t = s;
-    let slot = t.slots[k];
-    t.slots[k] = slot.extended(index, digest);
-    t
-}
-
-fn enrolled(s: State, k: usize, mark: u64, fields: Fields, digest: Digest) -> State
-    requires { ⌜ (k < slotCount) × RunsFit (fields .r) (fields .runs) ⌝ }
-    ensures { λ r. ⌜ r ≡ Turns.enrolledState s k mark fields digest ⌝ }
-{
-    let zero = Slot::zero();
-    let fresh = zero.extended(0, digest);
-    let pcrs = fresh.pcrs;
-    let slot = Slot {
-        card: Card {
-            registered: true,
-            mark: mark,
-            fields: fields,
-        },
-        pcrs: pcrs,
-    };
-    seated(s, k, slot, fields, (k + 1) as u8)
-}
-
-// The state after the change.
-pub fn changed(s: State, c: Change) -> State
-    requires { ⌜ Turns.Fits s (c .turn) (c .fields) ⌝ }
-    ensures { λ r. ⌜ r ≡ Turns.changedBy s (c .turn) (c .fields) (c .digest) ⌝ }
-{
-    let turn = c.turn;
-    match turn {
-        Turn::Kept => s,
-        Turn::Enters(running) => in_mode(s, Mode::Secure(running.slot), running),
-        Turn::Leaves(running) => in_mode(s, Mode::Legacy, running),
-        Turn::Frees(k) => vacated(s, k),
-        Turn::Extends { slot, index } => with_pcr(s, slot, index, c.digest),
-        Turn::Enrolls { slot, mark } => { enrolled(s, slot, mark, c.fields, c.digest) }
-    }
-}
-
-// The state does not stay.
-pub fn moves(turn: Turn) -> bool
-    ensures { λ r. ⌜ r ≡ Turns.moves turn ⌝ }
-{
-    match turn {
-        Turn::Kept => false,
-        Turn::Enters(_) => true,
-        Turn::Leaves(_) => true,
-        Turn::Frees(_) => true,
-        Turn::Extends { slot: _, index: _ } => true,
-        Turn::Enrolls { slot: _, mark: _ } => true,
-    }
-}
-
 fn unsteered() -> Steer
-    ensures { λ r. ⌜ r ≡ Turns.unsteered ⌝ }
+    ensures { λ r. ⌜ r ≡ Parts.unsteered ⌝ }
 {
     Steer {
         steers: false,
@@ -211,28 +114,181 @@ fn unsteered() -> Steer
     }
 }
 
-// The mode and the running record after the turn, where nothing else of the state changes.
+fn steered(mode: Mode, running: Running) -> Steer
+    ensures { λ r. ⌜ r ≡ Parts.steered mode running ⌝ }
+{
+    Steer {
+        steers: true,
+        mode,
+        running: running,
+    }
+}
+
+// The mode and the running record after the turn, where it changes them.
 pub fn steering(turn: Turn) -> Steer
-    ensures { λ r. ⌜ r ≡ Turns.steering turn ⌝ }
+    ensures { λ r. ⌜ r ≡ Parts.steering turn ⌝ }
 {
     match turn {
         Turn::Kept => unsteered(),
-        Turn::Enters(running) => {
-            Steer {
-                steers: true,
-                mode: Mode::Secure(running.slot),
-                running: running,
-            }
+        Turn::Enters(running) => steered(Mode::Secure(running.slot), running),
+        Turn::Leaves(running) => steered(Mode::Legacy, running),
+        Turn::Frees(_) => {
+            steered(
+                Mode::Legacy,
+                Running {
+                    slot: 0,
+                    out: 0,
+                    length: 0,
+                },
+            )
         }
-        Turn::Leaves(running) => {
-            Steer {
-                steers: true,
-                mode: Mode::Legacy,
-                running: running,
-            }
-        }
-        Turn::Frees(_) => unsteered(),
         Turn::Extends { slot: _, index: _ } => unsteered(),
         Turn::Enrolls { slot: _, mark: _ } => unsteered(),
     }
+}
+
+fn placed(k: usize) -> Place
+    ensures { λ r. ⌜ r ≡ Parts.placed k ⌝ }
+{
+    Place {
+        seats: true,
+        number: k,
+    }
+}
+
+fn unplaced() -> Place
+    ensures { λ r. ⌜ r ≡ Parts.unplaced ⌝ }
+{
+    Place {
+        seats: false,
+        number: 0,
+    }
+}
+
+// The slot that the turn fills, where it fills one.
+pub fn placing(turn: Turn) -> Place
+    ensures { λ r. ⌜ r ≡ Parts.placing turn ⌝ }
+{
+    match turn {
+        Turn::Kept => unplaced(),
+        Turn::Enters(_) => unplaced(),
+        Turn::Leaves(_) => unplaced(),
+        Turn::Frees(k) => placed(k),
+        Turn::Extends { slot, index: _ } => placed(slot),
+        Turn::Enrolls { slot, mark: _ } => placed(slot),
+    }
+}
+
+// No page gets another owner.
+fn filled(slot: Slot) -> Seat
+    ensures { λ r. ⌜ r ≡ Parts.filled slot ⌝ }
+{
+    let zero = Slot::zero();
+    let fields = zero.card.fields;
+    Seat {
+        slot: slot,
+        fields: fields,
+        owner: 0,
+    }
+}
+
+// "Release: .. the pages open; the slot becomes zero"
+fn freed(was: Slot) -> Seat
+    ensures { λ r. ⌜ r ≡ Parts.freed was ⌝ }
+{
+    let fields = was.card.fields;
+    let slot = was.cleared();
+    Seat {
+        slot: slot,
+        fields: fields,
+        owner: 0,
+    }
+}
+
+fn enrolled(k: usize, mark: u64, fields: Fields, digest: Digest) -> Seat
+    requires { ⌜ k < slotCount ⌝ }
+    ensures { λ r. ⌜ r ≡ Parts.enrolled k mark fields digest ⌝ }
+{
+    let zero = Slot::zero();
+    let fresh = zero.extended(0, digest);
+    let pcrs = fresh.pcrs;
+    let slot = Slot {
+        card: Card {
+            registered: true,
+            mark: mark,
+            fields: fields,
+        },
+        pcrs: pcrs,
+    };
+    Seat {
+        slot: slot,
+        fields: fields,
+        owner: (k + 1) as u8,
+    }
+}
+
+// What the turn makes of the slot that it fills.
+pub fn seating(was: Slot, c: Change) -> Seat
+    requires { ⌜ Parts.Seats (c .turn) ⌝ }
+    ensures { λ r. ⌜ r ≡ Parts.seating was (c .turn) (c .fields) (c .digest) ⌝ }
+{
+    let turn = c.turn;
+    match turn {
+        Turn::Kept => filled(was),
+        Turn::Enters(_) => filled(was),
+        Turn::Leaves(_) => filled(was),
+        Turn::Frees(_) => freed(was),
+        Turn::Extends { slot: _, index } => filled(was.extended(index, c.digest)),
+        Turn::Enrolls { slot, mark } => enrolled(slot, mark, c.fields, c.digest),
+    }
+}
+
+fn seated(s: State, c: Change) -> State
+    requires { ⌜ Turns.Fits s (c .turn) (c .fields) ⌝ }
+    ensures { λ r. ⌜ r ≡ Parts.seated s (c .turn) (c .fields) (c .digest) ⌝ }
+{
+    let turn = c.turn;
+    let place = placing(turn);
+    if !place.seats {
+        return s;
+    }
+    let k = place.number;
+    let mut t = s;
+    let was = t.slots[k];
+    let seat = seating(was, c);
+    let slot = seat.slot;
+    let n = seat.fields.r;
+    let runs = seat.fields.runs;
+    painting::paint_runs(&mut t.owner, n, runs, seat.owner);
+    t.slots[k] = slot;
+    t
+}
+
+fn in_mode(s: State, x: Steer) -> State
+    ensures { λ r. ⌜ r ≡ Parts.inMode s x ⌝ }
+{
+    if !x.steers {
+        return s;
+    }
+    let owner = s.owner;
+    let slots = s.slots;
+    let mode = x.mode;
+    let running = x.running;
+    State {
+        pages: s.pages,
+        kept: s.kept,
+        owner: owner,
+        slots: slots,
+        mode: mode,
+        running: running,
+    }
+}
+
+// The state after the change.
+pub fn changed(s: State, c: Change) -> State
+    requires { ⌜ Turns.Fits s (c .turn) (c .fields) ⌝ }
+    ensures { λ r. ⌜ r ≡ Turns.changedBy s (c .turn) (c .fields) (c .digest) ⌝ }
+{
+    let turn = c.turn;
+    in_mode(seated(s, c), steering(turn))
 }

@@ -10,7 +10,7 @@ ghost use lib.ListN.{length, take};
 ghost use lib.Seq.{sets};
 ghost use Rattle.lines.specs.Grammar.{payloadRoom};
 ghost use Rattle.gather.specs.Lines.{endedLines};
-ghost use Rattle.monitor.specs.Allowed.{outOf};
+ghost use Rattle.decide.specs.Allowed.{outOf};
 ghost use Rattle.desk.specs.Heard.{heard};
 ghost use Rattle.desk.specs.Served.{answeredIn, unasked, standingOf};
 ghost use Rattle.desk.specs.Session.{Faithful, Thorough};

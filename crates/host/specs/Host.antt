@@ -1,21 +1,29 @@
 -- What an event gives C: the rules' step, through the twin.
-use Prim.Native.Nat.{ℕ}
+use Prim.Native.Nat.{ℕ, _<_}
 use mathlib.Core.Path.{_≡_}
-use mathlib.Core.Bool.{true, false}
+use mathlib.Core.Bool.{false}
 use mathlib.Core.List.{List}
-use Rattle.state.specs.declared.Running.{Running}
+use lib.ListN.{getD, set}
+use Rattle.lists.specs.Below.{pick}
+use Rattle.geometry.specs.Geometry.{slotCount}
+use Rattle.painting.specs.Painting.{paintedRuns, RunsFit}
+use Rattle.state.specs.Zero.{noSlot, zeroRunning}
+use Rattle.events.specs.declared.Answer.the-variants.{Done}
 use Rattle.rules.specs.Act.{Out, step}
 use Rattle.wellformed.specs.declared.Sight.{Sight}
 use Rattle.wellformed.specs.Seen.{nothingSeen}
-use Rattle.monitor.specs.Looks.{looked}
+use Rattle.decide.specs.Looks.{looked}
 use Rattle.change.specs.declared.Change.{Change}
-use Rattle.change.specs.Turns.{changedBy, Fits}
+use Rattle.change.specs.declared.Seat.{Seat}
+use Rattle.change.specs.declared.Turn.the-variants.{Kept}
+use Rattle.change.specs.Turns.{turnOf}
+use Rattle.change.specs.Parts.{steering, placing, seating, Seats}
 use Rattle.twin.specs.declared.Monitor.{Monitor}
 use Rattle.twin.specs.declared.Request.{Request}
 use Rattle.twin.specs.declared.Reply.{Reply}
 use Rattle.twin.specs.declared.Asked.{Asked}
 use Rattle.twin.specs.declared.Asked.the-variants.{Known, Unknown}
-use Rattle.twin.specs.Twin.{openedOf, shutOf}
+use Rattle.twin.specs.Twin.{numberOf, openedOf, shutOf}
 use Rattle.twin.specs.Asked.{askedOf, replyOf, unknownReply}
 use Rattle.host.specs.declared.Heard.{Heard}
 
@@ -49,17 +57,48 @@ lookedFor Unknown m = nothingSeen
 unfoldable pub hostLooked : Monitor → Request → Sight
 hostLooked m q = lookedFor (askedOf q) m
 
--- the state after the change
-unfoldable pub renewedBy : Monitor → Change → Monitor
-renewedBy m c = shutOf (changedBy (openedOf m) (c .turn) (c .fields) (c .digest))
+-- the reply to a change, and where it stores
+abbrev pub heardOf : Change → Heard
+heardOf c = record {
+  reply = replyOf (c .answer);
+  steers = steering (c .turn) .steers;
+  mode = numberOf (steering (c .turn) .mode);
+  running = steering (c .turn) .running;
+  seats = placing (c .turn) .seats;
+  number = placing (c .turn) .number;
+  change = c;
+}
 
--- the state with another mode and another running record
-abbrev pub steeredBy : Monitor → ℕ → Running → Monitor
-steeredBy m n x = record { pages = m .pages; kept = m .kept; owner = m .owner; slots = m .slots; mode = n; running = x }
+-- no event: nothing is stored
+abbrev pub noneHeard : Heard
+noneHeard = record {
+  reply = unknownReply;
+  steers = false;
+  mode = 0;
+  running = zeroRunning;
+  seats = false;
+  number = 0;
+  change = turnOf Done Kept;
+}
 
--- what an event comes to: the reply and the state after the change, which can be made; where it steers, that is the state with the mode and the running record alone changed, and where nothing moves, the state as it was
+-- the state with the mode and the running record stored
+abbrev pub steered : Monitor → Heard → Monitor
+steered m h = pick (h .steers) (record { pages = m .pages; kept = m .kept; owner = m .owner; slots = m .slots; mode = h .mode; running = h .running }) m
+
+-- what the change makes of the slot that it fills
+abbrev pub seatIn : Monitor → Heard → Seat
+seatIn m h = seating (getD (m .slots) (h .number) noSlot) (h .change .turn) (h .change .fields) (h .change .digest)
+
+-- and with that slot, and its pages' owner
+abbrev pub taken : Monitor → ℕ → Seat → Monitor
+taken m k x = record { pages = m .pages; kept = m .kept; owner = paintedRuns (m .owner) (x .fields .runs) (x .owner) (x .fields .r); slots = set (m .slots) k (x .slot); mode = m .mode; running = m .running }
+
+abbrev pub stored : Monitor → Heard → Monitor
+stored m h = pick (h .seats) (taken (steered m h) (h .number) (seatIn (steered m h) h)) (steered m h)
+
+-- what an event comes to: the reply, and the state with these parts stored, for which there is room
 pub record Comes (m : Monitor) (h : Heard) (memory buffer : List ℕ) (o : Hosted) : Type 0 where
-  pub out : hosted (h .reply) (renewedBy m (h .change)) memory buffer ≡ o
-  pub steered : h .steers ≡ true → renewedBy m (h .change) ≡ steeredBy m (h .mode) (h .running)
-  pub stays : h .moved ≡ false → renewedBy m (h .change) ≡ m
-  pub fits : Fits (openedOf m) (h .change .turn) (h .change .fields)
+  pub out : hosted (h .reply) (stored m h) memory buffer ≡ o
+  pub slot-there : h .number < slotCount
+  pub seats-so : Seats (h .change .turn)
+  pub runs-fit : RunsFit (seatIn m h .fields .r) (seatIn m h .fields .runs)

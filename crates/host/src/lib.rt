@@ -1,9 +1,7 @@
 // An event for C: the monitor's state is lent, everything else is a struct by value or a lent slice. It asks nothing of its caller beyond what
 // C owes (host/monitor.h).
 ghost use mathlib.Core.Path.{_≡_};
-ghost use Rattle.change.specs.Turns.{Fits};
-ghost use Rattle.twin.specs.Twin.{openedOf};
-ghost use Rattle.host.specs.Host.{Comes, renewedBy, hosted, hostStep, hostLooked};
+ghost use Rattle.host.specs.Host.{Comes, heardOf, noneHeard, hosted, hostStep, hostLooked};
 ghost use Rattle.host.specs.Promise.{RefusalsKeepAll};
 use change::Change;
 use events::Answer;
@@ -14,13 +12,14 @@ use twin::Reply;
 use twin::Request;
 use wellformed::Sight;
 
-// What an event comes to: its reply; the mode and the running record, where these alone change; else the change, where the state does not stay.
+// What an event comes to: its reply, and what is stored where the state stands: the mode and the running record; a slot, which the change fills.
 pub struct Heard {
+    pub reply: Reply,
     pub steers: bool,
-    pub moved: bool,
     pub mode: usize,
     pub running: Running,
-    pub reply: Reply,
+    pub seats: bool,
+    pub number: usize,
     pub change: Change,
 }
 
@@ -32,9 +31,53 @@ fn looked(m: Monitor, q: Request) -> Sight
     match a {
         Asked::Known(e) => {
             let s = twin::opened(m);
-            monitor::looked(e, s)
+            decide::looked(e, s)
         }
         Asked::Unknown => wellformed::unseen(),
+    }
+}
+
+// The reply, and where the change stores.
+fn parts(c: Change) -> Heard
+    ensures { λ r. ⌜ r ≡ heardOf c ⌝ }
+{
+    let answer = c.answer;
+    let turn = c.turn;
+    let reply = twin::replied(answer);
+    let steer = change::steering(turn);
+    let to = steer.mode;
+    let mode = twin::number_of(to);
+    let running = steer.running;
+    let place = change::placing(turn);
+    Heard {
+        reply: reply,
+        steers: steer.steers,
+        mode: mode,
+        running: running,
+        seats: place.seats,
+        number: place.number,
+        change: c,
+    }
+}
+
+// No event: nothing is stored.
+fn unheard() -> Heard
+    ensures { λ r. ⌜ r ≡ noneHeard ⌝ }
+{
+    let reply = twin::not_asked();
+    let c = change::kept(Answer::Done);
+    Heard {
+        reply: reply,
+        steers: false,
+        mode: 0,
+        running: Running {
+            slot: 0,
+            out: 0,
+            length: 0,
+        },
+        seats: false,
+        number: 0,
+        change: c,
     }
 }
 
@@ -54,54 +97,14 @@ fn hear(
     match a {
         Asked::Known(e) => {
             let s = twin::opened(m);
-            let c = monitor::decided(e, x, payload, s, memory, buffer);
-            let answer = c.answer;
-            let turn = c.turn;
-            let reply = twin::replied(answer);
-            let steer = change::steering(turn);
-            let to = steer.mode;
-            let mode = twin::number_of(to);
-            let running = steer.running;
-            let moved = change::moves(turn);
-            Heard {
-                steers: steer.steers,
-                moved: moved,
-                mode: mode,
-                running: running,
-                reply: reply,
-                change: c,
-            }
+            let c = decide::decided(e, x, payload, s, memory, buffer);
+            parts(c)
         }
-        Asked::Unknown => {
-            let reply = twin::not_asked();
-            let c = change::kept(Answer::Done);
-            Heard {
-                steers: false,
-                moved: false,
-                mode: 0,
-                running: Running {
-                    slot: 0,
-                    out: 0,
-                    length: 0,
-                },
-                reply: reply,
-                change: c,
-            }
-        }
+        Asked::Unknown => unheard(),
     }
 }
 
-// The state after the change.
-fn renewed(m: Monitor, c: Change) -> Monitor
-    requires { ⌜ Fits (openedOf m) (c .turn) (c .fields) ⌝ }
-    ensures { λ r. ⌜ r ≡ renewedBy m c ⌝ }
-{
-    let s = twin::opened(m);
-    let t = change::changed(s, c);
-    twin::shut(t)
-}
-
-// One event, on the lent state. A call and a return store the mode and the running record alone; where the state stays, nothing is stored.
+// One event, on the lent state: each part that the event changes is stored where it stands.
 #[no_mangle]
 pub extern "C" fn monitor_event(
     m: &mut Monitor,
@@ -117,12 +120,13 @@ pub extern "C" fn monitor_event(
     if h.steers {
         m.mode = h.mode;
         m.running = h.running;
-    } else {
-        if h.moved {
-            let c = h.change;
-            let t = renewed(*m, c);
-            *m = t;
-        }
+    }
+    if h.seats {
+        let k = h.number;
+        let was = m.slots[k];
+        let seat = change::seating(was, h.change);
+        m.slots[k] = seat.slot;
+        painting::paint_runs(&mut m.owner, seat.fields.r, seat.fields.runs, seat.owner);
     }
     h.reply
 }

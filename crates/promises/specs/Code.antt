@@ -10,7 +10,7 @@ use denote.Triple.Entry.{Args, Res}
 use denote.Triple.Clauses.{Ended, Lasts, AtExit, atExit}
 use Rattle.rules.specs.Act.{World, Out}
 use Rattle.preserved.specs.Preserved.{Ask}
-use Rattle.monitor.specs.Allowed.{outOf}
+use Rattle.decide.specs.Allowed.{outOf}
 use Rattle.monitor.proofs.step as code
 
 -- the code was called with this state, memory, event, payload and buffer, did what its contract says, and left o

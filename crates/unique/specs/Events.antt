@@ -20,8 +20,9 @@ use Rattle.change.proofs.turned as change-turned
 use Rattle.change.proofs.kept as change-kept
 use Rattle.change.proofs.extending as change-extending
 use Rattle.change.proofs.enrolling as change-enrolling
-use Rattle.change.proofs.moves as change-moves
 use Rattle.change.proofs.steering as change-steering
+use Rattle.change.proofs.placing as change-placing
+use Rattle.change.proofs.seating as change-seating
 use Rattle.change.proofs.changed as change-changed
 use Rattle.release.proofs.jump.jump as release-jump
 use Rattle.release.proofs.release.release as release-release
@@ -36,8 +37,8 @@ use Rattle.enroll.proofs.free.free_slot as enroll-free-slot
 use Rattle.enroll.proofs.measure.measured as enroll-measured
 use Rattle.enroll.proofs.register.register as enroll-register
 use Rattle.extend.proofs.extend.extend as extend-extend
-use Rattle.monitor.proofs.looked as monitor-looked
-use Rattle.monitor.proofs.decided as monitor-decided
+use Rattle.decide.proofs.looked as decide-looked
+use Rattle.decide.proofs.decided as decide-decided
 use Rattle.monitor.proofs.step as monitor-step
 use borrow.Fn.World.{w₀}
 use borrow.Fn.Read.{r-last}
@@ -45,7 +46,7 @@ use Prim.Native.Nat.{ℕ}
 use mathlib.Core.List.{List}
 use Rattle.touch.specs.declared.Stepped.{Stepped}
 use Rattle.change.specs.Turns.{settled}
-use Rattle.monitor.specs.Allowed.{outOf}
+use Rattle.decide.specs.Allowed.{outOf}
 use Rattle.unique.specs.One.{Says, OneOutcome, told, OneView}
 
 -- A contract over a lent struct is proved by hand, and the toolchain makes no reading of it: its own clause, by the toolchain's rule for a plain fact.
@@ -76,8 +77,9 @@ pub record Events : Type 0 where
   pub change-kept-one : OneOutcome change-kept.ended change-kept.Reads.Learnt
   pub change-extending-one : OneOutcome change-extending.ended change-extending.Reads.Learnt
   pub change-enrolling-one : OneOutcome change-enrolling.ended change-enrolling.Reads.Learnt
-  pub change-moves-one : OneOutcome change-moves.ended change-moves.Reads.Learnt
   pub change-steering-one : OneOutcome change-steering.ended change-steering.Reads.Learnt
+  pub change-placing-one : OneOutcome change-placing.ended change-placing.Reads.Learnt
+  pub change-seating-one : OneOutcome change-seating.ended change-seating.Reads.Learnt
   pub change-changed-one : OneOutcome change-changed.ended change-changed.Reads.Learnt
   pub release-jump-one : OneView release-jump.ended release-jump.Reads.Learnt {A = Stepped × List ℕ} (λ κs a z w. (settled (a .0) z, w .1 .1 .1 .0))
   pub release-release-one : OneOutcome release-release.ended release-release.Reads.Learnt
@@ -92,6 +94,6 @@ pub record Events : Type 0 where
   pub enroll-measured-one : OneOutcome enroll-measured.ended enroll-measured.Reads.Learnt
   pub enroll-register-one : OneView enroll-register.ended enroll-register.Reads.Learnt (λ κs a z w. settled (a .0) z)
   pub extend-extend-one : OneView extend-extend.ended extend-extend.Reads.Learnt (λ κs a z w. settled (a .0) z)
-  pub monitor-looked-one : OneOutcome monitor-looked.ended monitor-looked.Reads.Learnt
-  pub monitor-decided-one : OneView monitor-decided.ended monitor-decided.Reads.Learnt (λ κs a z w. outOf (settled (a .1 .1 .1 .0) z) (w .1 .1 .1 .1 .0) (w .1 .1 .1 .1 .1 .0))
+  pub decide-looked-one : OneOutcome decide-looked.ended decide-looked.Reads.Learnt
+  pub decide-decided-one : OneView decide-decided.ended decide-decided.Reads.Learnt (λ κs a z w. outOf (settled (a .1 .1 .1 .0) z) (w .1 .1 .1 .1 .0) (w .1 .1 .1 .1 .1 .0))
   pub monitor-step-one : OneOutcome monitor-step.ended monitor-step.Reads.Learnt

@@ -15,7 +15,7 @@ use Rattle.desk.proofs.hear as desk-hear
 use Rattle.desk.proofs.serve as desk-serve
 use Rattle.desk.specs.Served.{standingOf}
 use lib.ListN.{take}
-use Rattle.monitor.specs.Allowed.{outOf}
+use Rattle.decide.specs.Allowed.{outOf}
 use Rattle.unique.specs.One.{OneOutcome, OneView}
 
 pub record Lines : Type 0 where

@@ -1,4 +1,3 @@
-use Rattle.change.specs.Turns.{seated}
 use Rattle.state.specs.Slots.{extendedSlot}
 use Rattle.state.specs.declared.Slot.{Slot}
 use Prim.Native.Nat.{_+_}
@@ -14,24 +13,18 @@ zero-requires c κs = search needs
 extended-requires : tie.Need-extended-requires
 extended-requires c κs = search needs
 
-add-seated : tie.Need-add-seated
-add-seated c = search needs
+add-t10 : tie.Need-add-t10
+add-t10 c = search needs
 
-cast-seated : tie.Need-cast-seated
-cast-seated c = search needs
-
-seated-requires : tie.Need-seated-requires
-seated-requires c κs = search needs
+cast-t11 : tie.Need-cast-t11
+cast-t11 c = search needs
 
 returns : tie.Need-returns
 unfolding extendedSlot
 returns c =
-    let a = c .before .before .before .before .args in
-    let p = ap (λ (x : Slot). x .pcrs) (c .before .before .extended .ensures ∙ ap (λ (x : Slot). extendedSlot x 0 (a .digest)) (c .before .before .before .zero .ensures)) in
-    c .seated .ensures
-    ∙ (λ i. seated (a .s) (a .k) (record { card = record { registered = true; mark = a .mark; fields = a .fields }; pcrs = p i }) (a .fields) (a .k + 1))
+    let a = c .before .before .before .args in
+    let p = ap (λ (x : Slot). x .pcrs) (c .before .extended .ensures ∙ ap (λ (x : Slot). extendedSlot x 0 (a .digest)) (c .before .before .zero .ensures)) in
+    λ i. record { slot = record { card = record { registered = true; mark = a .mark; fields = a .fields }; pcrs = p i }; fields = a .fields; owner = a .k + 1 }
 
 pub enrolled-spec : {M : Type 1} → statement M
-enrolled-spec =
-    tie.close
-    (tie.spec zero-requires extended-requires add-seated cast-seated seated-requires returns)
+enrolled-spec = tie.close (tie.spec zero-requires extended-requires add-t10 cast-t11 returns)

@@ -1,27 +1,67 @@
-use Rattle.change.proofs.Given.{given-painted}
-use Rattle.state.proofs.Shaped.{state-shape}
-use lib.ListN.{set}
-use mathlib.Core.Path.{_∙_}
+use Rattle.geometry.specs.Geometry.{slotCount}
+use Prim.Native.Nat.{ℕ, _<_}
+use mathlib.Core.Bool.{not}
+use mathlib.Core.List.{List}
+use mathlib.Core.Path.{sym, ap, subst, _∙_}
+use lib.ListN.{getD, set}
+use Rattle.painting.specs.Painting.{RunsFit}
+use Rattle.state.specs.Zero.{noSlot}
+use Rattle.change.specs.declared.Place.{Place}
+use Rattle.change.specs.declared.Seat.{Seat}
+use Rattle.change.specs.Parts.{seating, taken}
+use Rattle.change.proofs.Parts.{unseated, seated-so, place-fits, seats, seat-fits}
+use native.Mathlib.Omega.{arith}
 use borrow.Author.Needs.{needs}
 use Rattle.change.proofs.seated.Statement.{statement}
 use Rattle.change.proofs.seated.Tie as tie
 
-paint-runs-requires : tie.Need-paint-runs-requires
-paint-runs-requires c κs = search needs
-
-mul-slot : tie.Need-mul-slot
-mul-slot c = search needs
-
-element-set-from-slot : tie.Need-element-set-from-slot
-element-set-from-slot c = search needs
+placing-requires : tie.Need-placing-requires
+placing-requires c κs = search needs
 
 returns : tie.Need-returns
-returns c =
-    let z = c .before .before .before in
-    let a = z .args in
+returns c = let a = c .before .before .before .args in unseated (a .s) (a .c .turn) (a .c .fields) (a .c .digest) (ap (λ (p : Place). not (p .seats)) (sym (c .before .before .placing .ensures)) ∙ c .if1 .taken)
+
+mul-was : tie.Need-mul-was
+mul-was c = let a = c .before .before .before .args in let l : c .before .before .placing .result .number < 8 = subst (λ (p : Place). p .number < slotCount) (sym (c .before .before .placing .ensures)) (place-fits (a .s) (a .c .turn) (a .c .fields) (c .before .before .before .pre)) in omega (arith, l)
+
+element-copy-out-was : tie.Need-element-copy-out-was
+element-copy-out-was c = let a = c .before .before .before .args in let l : c .before .before .placing .result .number < 8 = subst (λ (p : Place). p .number < slotCount) (sym (c .before .before .placing .ensures)) (place-fits (a .s) (a .c .turn) (a .c .fields) (c .before .before .before .pre)) in omega (arith, l)
+
+seating-requires : tie.Need-seating-requires
+seating-requires c κs = let a = c .before .before .before .before .args in seats (a .s) (a .c .turn) (a .c .fields) (c .before .before .before .before .pre)
+
+paint-runs-requires : tie.Need-paint-runs-requires
+paint-runs-requires c κs =
+    let a = c .before .before .before .before .before .before .before .before .args in
+    let e = c .before .before .before .seating .ensures ∙ ap (λ (p : Place). seating (getD (a .s .slots) (p .number) noSlot) (a .c .turn) (a .c .fields) (a .c .digest)) (c .before .before .before .before .before .before .before .placing .ensures) in
+    subst (λ (x : Seat). RunsFit (x .fields .r) (x .fields .runs)) (sym e) (seat-fits (a .s) (a .c .turn) (a .c .fields) (a .c .digest) (c .before .before .before .before .before .before .before .before .pre))
+
+mul-slot : tie.Need-mul-slot
+mul-slot c = let a = c .before .before .before .before .before .before .before .before .before .args in let l : c .before .before .before .before .before .before .before .before .placing .result .number < 8 = subst (λ (p : Place). p .number < slotCount) (sym (c .before .before .before .before .before .before .before .before .placing .ensures)) (place-fits (a .s) (a .c .turn) (a .c .fields) (c .before .before .before .before .before .before .before .before .before .pre)) in omega (arith, l)
+
+element-set-from-slot : tie.Need-element-set-from-slot
+element-set-from-slot c = let a = c .before .before .before .before .before .before .before .before .before .args in let l : c .before .before .before .before .before .before .before .before .placing .result .number < 8 = subst (λ (p : Place). p .number < slotCount) (sym (c .before .before .before .before .before .before .before .before .placing .ensures)) (place-fits (a .s) (a .c .turn) (a .c .fields) (c .before .before .before .before .before .before .before .before .before .pre)) in omega (arith, l)
+
+returns-2 : tie.Need-returns-2
+returns-2 c =
+    let a = c .before .before .before .before .before .before .before .before .before .args in
     let s = a .s in
-    let o = c .paint-runs .ensures ∙ given-painted (s .owner) (a .fields) (a .v) (state-shape s _ (z .good .0) .owner-long) (z .pre .1 .fits) in
-    λ i. record { pages = s .pages; kept = s .kept; owner = o i; slots = set (s .slots) (a .k) (a .slot); mode = s .mode; running = s .running }
+    let k = c .before .before .before .before .before .before .before .before .placing .result .number in
+    ap (λ (o : List ℕ). record { pages = s .pages; kept = s .kept; owner = o; slots = set (s .slots) k (c .before .before .before .before .seating .result .slot); mode = s .mode; running = s .running }) (c .paint-runs .ensures)
+    ∙ ap (taken s k) (c .before .before .before .before .seating .ensures)
+    ∙ ap (λ (p : Place). taken s (p .number) (seating (getD (a .s .slots) (p .number) noSlot) (a .c .turn) (a .c .fields) (a .c .digest))) (c .before .before .before .before .before .before .before .before .placing .ensures)
+    ∙ seated-so s (a .c .turn) (a .c .fields) (a .c .digest) (ap (λ (p : Place). not (p .seats)) (sym (c .before .before .before .before .before .before .before .before .placing .ensures)) ∙ c .before .before .before .before .before .before .if1 .left)
 
 pub seated-spec : {M : Type 1} → statement M
-seated-spec = tie.close (tie.spec paint-runs-requires mul-slot element-set-from-slot returns)
+seated-spec =
+    tie.close
+    (tie.spec
+    placing-requires
+    returns
+    mul-was
+    element-copy-out-was
+    seating-requires
+    paint-runs-requires
+    mul-slot
+    element-set-from-slot
+    returns-2)

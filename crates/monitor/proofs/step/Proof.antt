@@ -1,4 +1,4 @@
-use Rattle.monitor.specs.Allowed.{outOf}
+use Rattle.decide.specs.Allowed.{outOf}
 use Rattle.state.specs.declared.State.{State}
 use mathlib.Core.Path.{ap, _∙_}
 use borrow.Author.Needs.{needs}

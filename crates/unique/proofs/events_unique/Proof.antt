@@ -27,8 +27,9 @@ returns c = record {
   change-kept-one = λ κs a z z′ w w′. result;
   change-extending-one = λ κs a z z′ w w′. result;
   change-enrolling-one = λ κs a z z′ w w′. result;
-  change-moves-one = λ κs a z z′ w w′. result;
   change-steering-one = λ κs a z z′ w w′. result;
+  change-placing-one = λ κs a z z′ w w′. result;
+  change-seating-one = λ κs a z z′ w w′. result;
   change-changed-one = λ κs a z z′ w w′. result;
   release-jump-one = λ κs a z z′ w w′ p q. settled-both (p []) (q []);
   release-release-one = λ κs a z z′ w w′ p q. (both (p .0) (q .0), λ i. (both (p .1) (q .1) i, (tt, (tt, (tt, (tt, tt))))));
@@ -43,8 +44,8 @@ returns c = record {
   enroll-measured-one = λ κs a z z′ w w′. digest;
   enroll-register-one = λ κs a z z′ w w′ p q. stepped (p .steps) (q .steps) .0;
   extend-extend-one = λ κs a z z′ w w′ p q. stepped (p .steps) (q .steps) .0;
-  monitor-looked-one = λ κs a z z′ w w′. result;
-  monitor-decided-one = λ κs a z z′ w w′ p q. both (p .out) (q .out);
+  decide-looked-one = λ κs a z z′ w w′. result;
+  decide-decided-one = λ κs a z z′ w w′ p q. both (p .out) (q .out);
   monitor-step-one = λ κs a z z′ w w′ p q. let o = both p q in ((λ i. record { answer = o i .answer; state = o i .state }), λ i. (tt, (tt, (tt, (o i .memory, (o i .buffer, tt))))));
 }
 

@@ -15,9 +15,9 @@ use Rattle.wellformed.specs.WellFormed.{stateRight, wellFormed}
 use Rattle.wellformed.proofs.Sights.{seen-right, seen-all}
 use Rattle.touch.specs.Carried.{Owned, IsSlot, Runs}
 use Rattle.touch.proofs.Ready.{mode-below}
-use Rattle.monitor.specs.Allowed.{slotIn}
-use Rattle.monitor.specs.declared.Look.{Look}
-use Rattle.monitor.specs.Looks.{looks, looked, Sees}
+use Rattle.decide.specs.Allowed.{slotIn}
+use Rattle.decide.specs.declared.looks.Look.{Look}
+use Rattle.decide.specs.Looks.{looks, looked, Sees}
 
 module _ (s : State) (e : Event) (x : Sight) (h : Sees s e x) (d : Event) (q : e ≡ d) where
   pub at-page : Owned s (looks d (slotIn (s .mode)) .page) (x .page)

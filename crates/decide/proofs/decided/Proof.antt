@@ -1,17 +1,12 @@
-use Rattle.monitor.proofs.Outs.{of-refuse, step-on, rule-2}
-use Rattle.monitor.proofs.Ends.{kept-comes, refuses-1}
-use Rattle.monitor.proofs.Sights.{not-right, not-long, well, right-as, sees}
+use Rattle.decide.proofs.Ends.{comes-on, refuses-1, refuses-2}
+use Rattle.decide.proofs.Sights.{not-right, not-long, well, right-as, sees}
 use Rattle.touch.proofs.Ready.{few-pages}
-use Rattle.events.specs.declared.Answer.the-variants as answer
 use Rattle.state.proofs.Shaped.{state-shape}
-use Rattle.state.specs.Face.{faceOf}
-use Rattle.manifest.specs.Reader.{readManifest}
-use lib.ListN.{length}
 use borrow.Author.Tests.{not-true, not-false}
 use mathlib.Core.Path.{sym, _∙_}
 use borrow.Author.Needs.{needs}
-use Rattle.monitor.proofs.decided.Statement.{statement}
-use Rattle.monitor.proofs.decided.Tie as tie
+use Rattle.decide.proofs.decided.Statement.{statement}
+use Rattle.decide.proofs.decided.Tie as tie
 
 returns : tie.Need-returns
 returns c =
@@ -32,12 +27,12 @@ returns-2 c =
 
 returns-3 : tie.Need-returns-3
 returns-3 c =
-    let a = c .before .before .before .before .before .before .before .before .before .before .args in
+    let z = c .before .before .before .before .before .before .before .before .before .before in
+    let a = z .args in
     let s = a .s in
-    kept-comes s (answer.Refused 2) _ (c .kept3 .ensures)
-    (of-refuse s (state-shape s _ (c .before .before .before .before .before .before .before .before .before .before .good .1 .1 .1 .0) .slots-long) 2 (a .payload .now) (a .buffer .now) (a .memory .now)
-    (rule-2 (faceOf s) (s .mode) (length (a .buffer .now)) (length (a .payload .now)) (readManifest (a .payload .now)) (a .event) (sym (c .before .before .allowed .ensures) ∙ not-true _ (c .before .if3 .taken)))
-    ∙ sym (step-on s (a .memory .now) (a .payload .now) (a .buffer .now) (a .event) (well s _ (sym (right-as s (a .event) (a .x) (c .before .before .before .before .before .before .before .before .before .before .pre)) ∙ not-false _ (c .before .before .before .before .before .if1 .left)) (c .before .before .before .if2 .left ∙ c .before .before .before .before .start-of .ensures))))
+    refuses-2 s (state-shape s _ (z .good .1 .1 .1 .0) .slots-long) (a .payload .now) (a .buffer .now) (a .memory .now) (a .event) _ (c .kept3 .ensures)
+    (well s _ (sym (right-as s (a .event) (a .x) (z .pre)) ∙ not-false _ (c .before .before .before .before .before .if1 .left)) (c .before .before .before .if2 .left ∙ c .before .before .before .before .start-of .ensures))
+    (sym (c .before .before .allowed .ensures) ∙ not-true _ (c .before .if3 .taken))
 
 dispatch-requires : tie.Need-dispatch-requires
 dispatch-requires c κs =
@@ -48,12 +43,11 @@ dispatch-requires c κs =
 
 returns-4 : tie.Need-returns-4
 returns-4 c =
-    let a = c .before .before .before .before .before .before .before .before .before .before .before .before .before .before .before .before .args in
-    let r = c .before .before .before .before .dispatch .ensures in
-    record {
-      out = r .out ∙ sym (step-on (a .s) (a .memory .now) (a .payload .now) (a .buffer .now) (a .event) (well (a .s) _ (sym (right-as (a .s) (a .event) (a .x) (c .before .before .before .before .before .before .before .before .before .before .before .before .before .before .before .before .pre)) ∙ not-false _ (c .before .before .before .before .before .before .before .before .before .before .before .if1 .left)) (c .before .before .before .before .before .before .before .before .before .if2 .left ∙ c .before .before .before .before .before .before .before .before .before .before .start-of .ensures)));
-      fits = r .fits;
-    }
+    let z = c .before .before .before .before .before .before .before .before .before .before .before .before .before .before .before .before in
+    let a = z .args in
+    comes-on (a .s) (a .payload .now) (a .buffer .now) (a .memory .now) (a .event)
+    (well (a .s) _ (sym (right-as (a .s) (a .event) (a .x) (z .pre)) ∙ not-false _ (c .before .before .before .before .before .before .before .before .before .before .before .if1 .left)) (c .before .before .before .before .before .before .before .before .before .if2 .left ∙ c .before .before .before .before .before .before .before .before .before .before .start-of .ensures))
+    (c .before .before .before .before .dispatch .ensures)
 
 kept-requires-3 : tie.Need-kept-requires-3
 kept-requires-3 c κs = search needs

@@ -1,11 +1,11 @@
 use Rattle.events.specs.declared.Event.{Event}
-use Rattle.monitor.specs.declared.Look.{Look}
-use Rattle.monitor.specs.Looks.{looks}
+use Rattle.decide.specs.declared.looks.Look.{Look}
+use Rattle.decide.specs.Looks.{looks}
 use Prim.Native.Nat.{ℕ}
 use mathlib.Core.Path.{_≡_, sym, ap, _∙_}
 use borrow.Author.Needs.{needs}
-use Rattle.monitor.proofs.looks.Statement.{statement}
-use Rattle.monitor.proofs.looks.Tie as tie
+use Rattle.decide.proofs.looks.looks.Statement.{statement}
+use Rattle.decide.proofs.looks.looks.Tie as tie
 
 -- what is looked at for the event that it is
 arm : {x : Look} {d : Event} (e : Event) (k : ℕ) → x ≡ looks d k → e ≡ d → x ≡ looks e k

@@ -1,13 +1,13 @@
-use Rattle.monitor.proofs.Outs.{mode-of}
-use Rattle.monitor.proofs.Ends.{register-end, unregister-end, call-end, return-end, jump-end, read-end, write-end, device-read-end, device-write-end, extend-end, pcr-end}
-use Rattle.monitor.specs.Allowed.{allowed}
-use Rattle.monitor.proofs.Sights.{at-page, at-other, at-slot, slot-below, slot-runs}
+use Rattle.decide.proofs.Outs.{mode-of}
+use Rattle.decide.proofs.Ends.{register-end, unregister-end, call-end, return-end, jump-end, read-end, write-end, device-read-end, device-write-end, extend-end, pcr-end}
+use Rattle.decide.specs.Allowed.{allowed}
+use Rattle.decide.proofs.Sights.{at-page, at-other, at-slot, slot-below, slot-runs}
 use Rattle.touch.proofs.Ready.{ready, mode-below}
 use Rattle.state.proofs.Shaped.{state-shape}
 use mathlib.Core.Path.{sym, ap, _∙_}
 use borrow.Author.Needs.{needs}
-use Rattle.monitor.proofs.dispatch.Statement.{statement}
-use Rattle.monitor.proofs.dispatch.Tie as tie
+use Rattle.decide.proofs.dispatch.Statement.{statement}
+use Rattle.decide.proofs.dispatch.Tie as tie
 
 register-requires : tie.Need-register-requires
 register-requires c κs = c .before .before .before .before .before .before .before .before .before .pre .0

@@ -22,12 +22,12 @@ use Rattle.touch.specs.Carried.{Fills, Stores}
 use Rattle.change.specs.declared.Change.{Change}
 use Rattle.change.specs.declared.Turn.the-variants.{Kept}
 use Rattle.change.specs.Turns.{turnOf, Settles, Acts}
-use Rattle.monitor.specs.Allowed.{slotIn, allowed, outOf, Comes}
-use Rattle.monitor.proofs.Rest.{Leaves, register-nothing, unregister-nothing, call-nothing, return-nothing, jump-nothing, extend-nothing, write-nothing, write-leaves, read-leaves, read-keeps, pcr-leaves, pcr-keeps}
-use Rattle.monitor.proofs.Outs.{of-steps, of-fills, of-stores, of-refuse, step-1, step-as, as-register, as-unregister, as-call, as-return, as-jump, as-read, as-write, as-device-read, as-device-write, as-extend, as-pcr}
+use Rattle.decide.specs.Allowed.{slotIn, allowed, outOf, Comes}
+use Rattle.decide.proofs.Rest.{Leaves, register-nothing, unregister-nothing, call-nothing, return-nothing, jump-nothing, extend-nothing, write-nothing, write-leaves, read-leaves, read-keeps, pcr-leaves, pcr-keeps}
+use Rattle.decide.proofs.Outs.{of-steps, of-fills, of-stores, of-refuse, step-1, step-on, step-as, rule-2, as-register, as-unregister, as-call, as-return, as-jump, as-read, as-write, as-device-read, as-device-write, as-extend, as-pcr}
 
 -- the state stays
-pub kept-comes : {o : Out} {m b : List ℕ} (s : State) (a : Answer) (c : Change) → c ≡ turnOf a Kept → outOf (record { answer = a; state = s }) m b ≡ o → Comes s c m b o
+kept-comes : {o : Out} {m b : List ℕ} (s : State) (a : Answer) (c : Change) → c ≡ turnOf a Kept → outOf (record { answer = a; state = s }) m b ≡ o → Comes s c m b o
 kept-comes {o} {m} {b} s a c q h = subst (λ (z : Change). Comes s z m b o) (sym q) (record { out = h; fits = tt })
 
 -- check 1 refuses
@@ -36,6 +36,20 @@ pub refuses-1 : (s : State) → length (s .slots) ≡ slotCount → (payload buf
 refuses-1 s e payload buffer m ev c q h =
     kept-comes s (answer.Refused 1) c q
     (of-refuse s e 1 payload buffer m refl ∙ sym (step-as s m payload buffer ev (step-1 s m payload buffer ev h)))
+
+-- check 1 passes: what the event's rule comes to is what the step comes to
+pub comes-on : (s : State) (payload buffer m : List ℕ) (ev : Event) {c : Change} {m′ b′ : List ℕ} → wellFormed s (length m) ≡ true
+    → Comes s c m′ b′ (act (ruleIn (s .mode) (faceOf s) (length buffer) (length payload) (readManifest payload) ev) payload buffer (pcrsOf s) m)
+    → Comes s c m′ b′ (step s m ev payload buffer)
+comes-on s payload buffer m ev w r = record { out = r .out ∙ sym (step-on s m payload buffer ev w); fits = r .fits }
+
+-- check 2 refuses
+pub refuses-2 : (s : State) → length (s .slots) ≡ slotCount → (payload buffer m : List ℕ) (ev : Event) (c : Change) → c ≡ turnOf (answer.Refused 2) Kept → wellFormed s (length m) ≡ true
+    → allowed (s .mode) ev ≡ false → Comes s c m buffer (step s m ev payload buffer)
+refuses-2 s e payload buffer m ev c q w h =
+    comes-on s payload buffer m ev w
+    (kept-comes s (answer.Refused 2) c q
+    (of-refuse s e 2 payload buffer m (rule-2 (faceOf s) (s .mode) (length buffer) (length payload) (readManifest payload) ev h)))
 
 module _ (s : State) (e : length (s .slots) ≡ slotCount) (payload buffer m : List ℕ) (ev : Event) (h : allowed (s .mode) ev ≡ true) where
   abbrev Ends : Change → List ℕ → List ℕ → Type 0

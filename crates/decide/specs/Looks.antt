@@ -7,8 +7,8 @@ use Rattle.events.specs.declared.Event.{Event}
 use Rattle.events.specs.declared.Event.the-variants.{Register, Unregister, Call, Return, Jump, Read, Write, DeviceRead, DeviceWrite, Extend, PcrRead}
 use Rattle.wellformed.specs.declared.Sight.{Sight}
 use Rattle.wellformed.specs.Seen.{allSeen, seenOf}
-use Rattle.monitor.specs.declared.Look.{Look}
-use Rattle.monitor.specs.Allowed.{slotIn}
+use Rattle.decide.specs.declared.looks.Look.{Look}
+use Rattle.decide.specs.Allowed.{slotIn}
 
 abbrev pub at : ℕ → ℕ → Look
 at k p = record { slot = k; page = p; other = 0 }

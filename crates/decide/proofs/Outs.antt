@@ -26,8 +26,8 @@ use Rattle.rules.specs.Act.{fetched, stored, sealed, act, planOf, step}
 use Rattle.touch.specs.Carried.{Fills, Stores, Steps}
 use Rattle.touch.specs.declared.Stepped.{Stepped}
 use Rattle.touch.proofs.Plans.{pass, stop}
-use Rattle.monitor.specs.Allowed.{isLegacy, slotIn, allowed, outOf}
-use Rattle.monitor.proofs.Rest.{Leaves}
+use Rattle.decide.specs.Allowed.{isLegacy, slotIn, allowed, outOf}
+use Rattle.decide.proofs.Rest.{Leaves}
 
 -- ---- the outcome of a plan
 

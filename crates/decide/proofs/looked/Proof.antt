@@ -1,9 +1,9 @@
-use Rattle.monitor.specs.declared.Look.{Look}
-use Rattle.monitor.specs.Looks.{looks, seenIn, looked}
+use Rattle.decide.specs.declared.looks.Look.{Look}
+use Rattle.decide.specs.Looks.{looks, seenIn, looked}
 use mathlib.Core.Path.{ap, _∙_}
 use borrow.Author.Needs.{needs}
-use Rattle.monitor.proofs.looked.Statement.{statement}
-use Rattle.monitor.proofs.looked.Tie as tie
+use Rattle.decide.proofs.looked.Statement.{statement}
+use Rattle.decide.proofs.looked.Tie as tie
 
 slot-in-requires : tie.Need-slot-in-requires
 slot-in-requires c κs = search needs
