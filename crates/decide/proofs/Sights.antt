@@ -16,8 +16,8 @@ use Rattle.wellformed.proofs.Sights.{seen-right, seen-all}
 use Rattle.touch.specs.Carried.{Owned, IsSlot, Runs}
 use Rattle.touch.proofs.Ready.{mode-below}
 use Rattle.decide.specs.Allowed.{slotIn}
-use Rattle.decide.specs.declared.looks.Look.{Look}
-use Rattle.decide.specs.Looks.{looks, looked, Sees}
+use Rattle.decide.specs.declared.Look.{Look}
+use Rattle.decide.specs.Looks.{looks, looking, looked, Sees}
 
 module _ (s : State) (e : Event) (x : Sight) (h : Sees s e x) (d : Event) (q : e ≡ d) where
   pub at-page : Owned s (looks d (slotIn (s .mode)) .page) (x .page)
@@ -55,7 +55,7 @@ module _ (s : State) (n : ℕ) where
 
 module _ (s : State) (e : Event) (x : Sight) (h : x ≡ looked e s) where
   abbrev l : Look
-  l = looks e (slotIn (s .mode))
+  l = looking e (s .mode)
 
   pub right-as : x .right ≡ stateRight s
   unfolding looked

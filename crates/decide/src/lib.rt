@@ -10,6 +10,7 @@ use events::Event;
 use geometry::Geometry;
 use release::jump;
 use release::unregister;
+use state::Mode;
 use state::State;
 use touch::pcr_read;
 use touch::read;
@@ -27,12 +28,26 @@ ghost use Rattle.rules.specs.Act as rules;
 ghost use Rattle.decide.specs.Allowed as Allowed;
 ghost use Rattle.decide.specs.Looks as Looks;
 
+// What an event looks at: a slot, and two pages.
+pub struct Look {
+    pub slot: usize,
+    pub page: usize,
+    pub other: usize,
+}
+
+// Where the event looks.
+pub fn looking(event: Event, mode: Mode) -> Look
+    ensures { λ r. ⌜ r ≡ Looks.looking event mode ⌝ }
+{
+    looks::looks(event, modes::slot_in(mode))
+}
+
 // Whether the state is well formed, and what the event looks at in it.
 pub fn looked(event: Event, s: State) -> Sight
     ensures { λ r. ⌜ r ≡ Looks.looked event s ⌝ }
 {
     let mode = s.mode;
-    let look = looks::looks(event, modes::slot_in(mode));
+    let look = looking(event, mode);
     wellformed::seen(s, look.slot, look.page, look.other)
 }
 

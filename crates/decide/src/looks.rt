@@ -1,15 +1,9 @@
 // Where each event looks, so that the state is looked at once.
+use crate::Look;
 use events::Event;
 use geometry::Geometry;
 ghost use mathlib.Core.Path.{_≡_};
 ghost use Rattle.decide.specs.Looks as Looks;
-
-// A slot, and two pages.
-pub struct Look {
-    pub slot: usize,
-    pub page: usize,
-    pub other: usize,
-}
 
 fn at(slot: usize, page: usize) -> Look
     ensures { λ r. ⌜ r ≡ Looks.at slot page ⌝ }

@@ -15,26 +15,23 @@ use mir.Syntax.{Ty, tyInt, tyBool, tyUnit, tyArray, named, w8, w64, Body as Code
 use mir.Fields.{setV}
 use mir.Val.{Val, vint, vunit, vptr, vstruct, Vals, hasTy, WT, Fits}
 use base.Logic.{SProp, ent, sep, wand, all, allE, apply∗, id⊢}
-use base.Fml.{GName, ftrue, flft, flent, fat, froom}
+use base.Fml.{GName, ftrue, flft, fat, froom}
 use prog.Memory.{Memory}
 use prog.Routine.{Routine}
 use prog.Wp.{Heap, Env, Calls, Loops, Wp, afterSeq, atReturn}
 use ghost.Atoms.{Atoms, sem}
 use contract.Monad.{Fun, fact}
-use types.Kit.{Given, Item, Goal, Sq, mean, runs, anyQ, atRet, ‵, raw, _⊛_, some, later, _$_, _∵_, !, qed, move, drop, use1, use2, use3, split, join, pick as choose, await, rewrite, fsplit, fjoin, feqL, done}
-use types.Tokens.{lft-new, lft-end}
+use types.Kit.{Given, Item, Goal, Sq, mean, runs, anyQ, atRet, ‵, raw, _⊛_, some, later, _$_, _∵_, !, qed, move, drop, use1, use2, split, join, pick as choose, await, rewrite, fsplit, fjoin, feqL, done}
 use types.Run.{look, init, forget, stop, hop, fld, from, load, lit, bin, addr, and-then, no-more, of-opd, assigns, assigns-last, land, land-last, exec}
 use types.Part.{Part, whole, sub, look-in, store-in}
-use types.SemTy.{Body}
 use sound.WpLaws.{FmC}
 use denote.RattleType.{owns}
 use denote.Laws.{Is, shows}
-use denote.Memory.{mem, cellAt}
+use denote.Memory.{mem, cellAt, pointee}
 use denote.Plain.{Nothing, uint-makes}
 use denote.Builtin.{u8, usize}
 use denote.Array.{Array, arrayVal, array-makes}
 use denote.Ref.{RefT, MutRef}
-use denote.Lend.{lends-ref, ref-back}
 use denote.Steps.{owned, peeks, heard, nothing, only}
 use denote.Struct.Laws as LL
 use denote.Triple.Statement.{Contract, Triple}
@@ -58,24 +55,27 @@ use Rattle.change.proofs.Change as D
 use Rattle.change.proofs.Change.Laws as D′
 use Rattle.change.proofs.Seat as Z
 use Rattle.change.proofs.Seat.Laws as Z′
+use Rattle.decide.proofs.Look.Laws as X′
+use Rattle.wellformed.proofs.Sight.Laws as S′
 use Rattle.twin.proofs.Monitor as T
 use Rattle.twin.proofs.Monitor.Laws as T′
 use Rattle.host.proofs.Heard.Laws as R′
-use Rattle.host.proofs.Cells.{raw-whole, elt, lies, found}
-use Rattle.host.proofs.Lent.{spelled, vals, slot-val, owner-vals, parts, owner-tells}
+use Rattle.host.proofs.Cells.{raw-whole, elt}
+use Rattle.host.proofs.Lent.{spelled, vals, slot-val, owner-vals, parts}
 use Rattle.change.proofs.seating as sg
 use Rattle.change.proofs.seating.Symbol.{name as #sg}
 use Rattle.painting.proofs.paint_runs as n
 use Rattle.painting.proofs.paint_runs.Symbol.{name as #n}
 use mir.Syntax.{tyPtr, tyRef, erased, mut}
-use Rattle.host.proofs.Told.{owner-at, slots-at, mode-at, running-at, mode-told, running-told, number-told, change-told, slot-made, fields-made, owner-made, r-made, runs-made, answered, seat-parts, Table, table-vals, change-vals, runs-vals, seat-slot, seat-owner, seat-r, seat-runs}
+use Rattle.host.proofs.Loans.{Table, table-vals, table-at, lent-mut, back-mut}
+use Rattle.host.proofs.Told.{owner-at, slots-at, mode-at, running-at, mode-told, running-told, number-told, change-told, slot-made, fields-made, owner-made, r-made, runs-made, answered, seat-parts, change-vals, runs-vals, seat-slot, seat-owner, seat-r, seat-runs}
 
 -- a field of the state that is lent, and one of what `hear` answered
 abbrev pub lent : ℕ → Place
 lent k = place 1 (deref T′.mir ∷ field k ∷ [])
 
 abbrev pub told : ℕ → Place
-told k = place 7 (field k ∷ [])
+told k = place 8 (field k ∷ [])
 
 -- the arms
 abbrev pub steers : Code
@@ -83,19 +83,19 @@ steers = seq (assign (lent 4) (rvOpd (copy (told 2)))) (assign (lent 5) (rvOpd (
 
 -- the arm that fills a slot: what stands in it is read, and `seating` is called on it; the slot is stored, and its pages get their owner
 abbrev pub paints : Code
-paints = seq (assign (place 24 []) (addrOf (lent 2))) (call #n (copy (place 24 []) ∷ copy (place 10 (field 1 ∷ field 0 ∷ [])) ∷ copy (place 10 (field 1 ∷ field 2 ∷ [])) ∷ copy (place 10 (field 2 ∷ [])) ∷ []) (place 23 []))
+paints = seq (assign (place 27 []) (addrOf (lent 2))) (call #n (copy (place 27 []) ∷ copy (place 11 (field 1 ∷ field 0 ∷ [])) ∷ copy (place 11 (field 1 ∷ field 2 ∷ [])) ∷ copy (place 11 (field 2 ∷ [])) ∷ []) (place 26 []))
 
 abbrev pub fills : Code
 fills =
-    seq (assign (place 17 []) (op2 (mul unsigned) (copy (place 8 [])) (int w64 288))) (seq (assign (place 21 []) (addrOf (lent 3))) (seq (assign (place 22 []) (op2 offset (copy (place 21 [])) (copy (place 17 []))))
-    (seq (assign (place 22 (deref L′.mir ∷ [])) (rvOpd (copy (place 10 (field 0 ∷ []))))) paints)))
+    seq (assign (place 20 []) (op2 (mul unsigned) (copy (place 9 [])) (int w64 288))) (seq (assign (place 24 []) (addrOf (lent 3))) (seq (assign (place 25 []) (op2 offset (copy (place 24 [])) (copy (place 20 []))))
+    (seq (assign (place 25 (deref L′.mir ∷ [])) (rvOpd (copy (place 11 (field 0 ∷ []))))) paints)))
 
 abbrev pub seats : Code
 seats =
-    seq (assign (place 8 []) (rvOpd (copy (told 5)))) (seq (assign (place 17 []) (op2 (mul unsigned) (copy (place 8 [])) (int w64 288)))
-    (seq (assign (place 18 []) (addrOf (lent 3))) (seq (assign (place 19 []) (op2 offset (copy (place 18 [])) (copy (place 17 []))))
-    (seq (assign (place 20 []) (rvOpd (copy (place 19 (deref L′.mir ∷ []))))) (seq (assign (place 9 []) (rvOpd (copy (place 20 []))))
-    (seq (call #sg (copy (place 9 []) ∷ copy (told 6) ∷ []) (place 10 [])) fills))))))
+    seq (assign (place 9 []) (rvOpd (copy (told 5)))) (seq (assign (place 20 []) (op2 (mul unsigned) (copy (place 9 [])) (int w64 288)))
+    (seq (assign (place 21 []) (addrOf (lent 3))) (seq (assign (place 22 []) (op2 offset (copy (place 21 [])) (copy (place 20 []))))
+    (seq (assign (place 23 []) (rvOpd (copy (place 22 (deref L′.mir ∷ []))))) (seq (assign (place 10 []) (rvOpd (copy (place 23 []))))
+    (seq (call #sg (copy (place 10 []) ∷ copy (told 6) ∷ []) (place 11 [])) fills))))))
 
 -- the contracts of what the arms call
 abbrev pub B : {M : Type 1} (𝓤 : URA M) (H : Heap 𝓤) (A : Atoms 𝓤) (mem : Memory → SProp 𝓤) (run : Routine → Fun 𝓤) → Contract 𝓤
@@ -127,9 +127,9 @@ module _ {M : Type 1} (𝓤 : URA M) (H : Heap 𝓤) (A : Atoms 𝓤) (W : Given
     goes-n : RunsFit (z .fields .r) (z .fields .runs) → ent 𝓤 (sep 𝓤 (sep 𝓤 (A .lft (ν ∷ []) fullShare) (sem 𝓤 H A ftrue)) (sem 𝓤 H A (owns (MutRef (named 0) (ν ∷ []) Table ∷ usize ∷ Array U.the-row 4 ∷ u8 ∷ []) owners-args owners-given))) (N 𝓤 H A at-mem run .pre to-n)
     goes-n fits = qed W ((‵ (flft (ν ∷ []) fullShare) ⊛ ‵ ftrue) ∷ ‵ (owns (MutRef (named 0) (ν ∷ []) Table ∷ usize ∷ Array U.the-row 4 ∷ u8 ∷ []) owners-args owners-given) ∷ []) ∵ says ! fits $ done !
 
-  module _ (C : Calls 𝓤 H) (Λ : Loops 𝓤 H) (Post : Val → SProp 𝓤) (τ : ℕ → Ty) (l0 l1 l2 l3 l4 l5 l6 l7 l8 l9 l10 l11 l12 l13 l14 l15 l16 l17 l18 l19 l20 l21 l22 l23 l24 : ℕ) where
+  module _ (C : Calls 𝓤 H) (Λ : Loops 𝓤 H) (Post : Val → SProp 𝓤) (τ : ℕ → Ty) (l0 l1 l2 l3 l4 l5 l6 l7 l8 l9 l10 l11 l12 l13 l14 l15 l16 l17 l18 l19 l20 l21 l22 l23 l24 l25 l26 l27 : ℕ) where
     abbrev pub En : Env 𝓤 H
-    En = (τ 0, l0) ∷ (τ 1, l1) ∷ (τ 2, l2) ∷ (τ 3, l3) ∷ (τ 4, l4) ∷ (τ 5, l5) ∷ (τ 6, l6) ∷ (R′.mir, l7) ∷ (tyInt w64, l8) ∷ (L′.mir, l9) ∷ (Z′.mir, l10) ∷ (τ 11, l11) ∷ (τ 12, l12) ∷ (τ 13, l13) ∷ (τ 14, l14) ∷ (τ 15, l15) ∷ (tyBool, l16) ∷ (tyInt w64, l17) ∷ (tyPtr, l18) ∷ (tyPtr, l19) ∷ (L′.mir, l20) ∷ (tyPtr, l21) ∷ (tyPtr, l22) ∷ (tyUnit, l23) ∷ (tyRef erased mut (tyArray (tyInt w8) 1024), l24) ∷ []
+    En = (τ 0, l0) ∷ (τ 1, l1) ∷ (τ 2, l2) ∷ (τ 3, l3) ∷ (τ 4, l4) ∷ (τ 5, l5) ∷ (X′.mir, l6) ∷ (S′.mir, l7) ∷ (R′.mir, l8) ∷ (tyInt w64, l9) ∷ (L′.mir, l10) ∷ (Z′.mir, l11) ∷ (tyInt w64, l12) ∷ (tyRef erased mut (pointee (T.the-row .written)), l13) ∷ (τ 14, l14) ∷ (τ 15, l15) ∷ (τ 16, l16) ∷ (τ 17, l17) ∷ (τ 18, l18) ∷ (tyBool, l19) ∷ (tyInt w64, l20) ∷ (tyPtr, l21) ∷ (tyPtr, l22) ∷ (L′.mir, l23) ∷ (tyPtr, l24) ∷ (tyPtr, l25) ∷ (tyUnit, l26) ∷ (tyRef erased mut (tyArray (tyInt w8) 1024), l27) ∷ []
 
     -- an arm, from which the rest goes on
     abbrev pub arm : Code → Code → Goal 𝓤 H
@@ -143,14 +143,14 @@ module _ {M : Type 1} (𝓤 : URA M) (H : Heap 𝓤) (A : Atoms 𝓤) (W : Given
     cell v = ‵ (cellAt fullShare (T.the-row .mir) (v ∷ []) b o)
 
     abbrev near : Vals → Item 𝓤 → Item 𝓤 → Val → List (Item 𝓤) → List (Item 𝓤)
-    near tv i8 i10 v Γ = cell v ∷ ‵ (fat fullShare R′.mir l7 0 (vstruct tv)) ∷ ‵ (fat fullShare (τ 1) l1 0 (vptr b o)) ∷ i8 ∷ ‵ (froom L′.mir l9 0) ∷ i10 ∷ ‵ (froom tyBool l16 0) ∷ ‵ (froom (tyInt w64) l17 0) ∷ ‵ (froom tyPtr l18 0) ∷ ‵ (froom tyPtr l19 0) ∷ ‵ (froom L′.mir l20 0) ∷ ‵ (froom tyPtr l21 0) ∷ ‵ (froom tyPtr l22 0) ∷ ‵ (froom tyUnit l23 0) ∷ ‵ (froom (tyRef erased mut (tyArray (tyInt w8) 1024)) l24 0) ∷ Γ
+    near tv i9 i11 v Γ = cell v ∷ ‵ (fat fullShare R′.mir l8 0 (vstruct tv)) ∷ ‵ (fat fullShare (τ 1) l1 0 (vptr b o)) ∷ i9 ∷ ‵ (froom L′.mir l10 0) ∷ i11 ∷ ‵ (froom tyBool l19 0) ∷ ‵ (froom (tyInt w64) l20 0) ∷ ‵ (froom tyPtr l21 0) ∷ ‵ (froom tyPtr l22 0) ∷ ‵ (froom L′.mir l23 0) ∷ ‵ (froom tyPtr l24 0) ∷ ‵ (froom tyPtr l25 0) ∷ ‵ (froom tyUnit l26 0) ∷ ‵ (froom (tyRef erased mut (tyArray (tyInt w8) 1024)) l27 0) ∷ Γ
 
     abbrev pub held : Vals → Val → List (Item 𝓤) → List (Item 𝓤)
-    held tv = near tv (‵ (froom (tyInt w64) l8 0)) (‵ (froom Z′.mir l10 0))
+    held tv = near tv (‵ (froom (tyInt w64) l9 0)) (‵ (froom Z′.mir l11 0))
 
     -- and once `seating` has answered, for slot nr
     abbrev sat : ℕ → Vals → Seat → Val → List (Item 𝓤) → List (Item 𝓤)
-    sat nr tv z = near tv (‵ (fat fullShare (tyInt w64) l8 0 (vint w64 nr))) (‵ (fat fullShare Z′.mir l10 0 (vstruct (seat-parts z))))
+    sat nr tv z = near tv (‵ (fat fullShare (tyInt w64) l9 0 (vint w64 nr))) (‵ (fat fullShare Z′.mir l11 0 (vstruct (seat-parts z))))
 
     -- p and m are the state's first two values, Γ what no arm needs
     module _ (p m : Val) (Γ : List (Item 𝓤)) where
@@ -177,7 +177,7 @@ module _ {M : Type 1} (𝓤 : URA M) (H : Heap 𝓤) (A : Atoms 𝓤) (W : Given
             assigns ! (addr ! (from ! (hop ! (look ! 2 refl) (fld ! slots-at (stop !))))) (from ! (stop !)) (init ! 8 refl (tt, tt)) $
             assigns ! (bin ! (load ! (from ! (stop !)) (look ! 8 refl)) (load ! (from ! (stop !)) (look ! 7 refl)) tt) (from ! (stop !)) (init ! 9 refl (tt, tt)) $
             assigns ! (of-opd ! (load ! (from ! (hop ! (look ! 9 refl) (stop !))) (look-in ! 0 (elt 𝓤 H A W ! sl nr vunit long (there sl long) (sub ! 3 slots-at (raw-whole ! T′.mir)))))) (from ! (stop !))
-            (init ! 10 refl (subst (λ (v : Val). T (hasTy L′.mir v) × WT v) (sym same) (LL.lawful L.the-type L′.the-laws 𝓤 H A W .typed z _ z-is .0))) $ rewrite ! 10 (λ (v : Val). ‵ (fat fullShare L′.mir l20 0 v)) same refl $
+            (init ! 10 refl (subst (λ (v : Val). T (hasTy L′.mir v) × WT v) (sym same) (LL.lawful L.the-type L′.the-laws 𝓤 H A W .typed z _ z-is .0))) $ rewrite ! 10 (λ (v : Val). ‵ (fat fullShare L′.mir l23 0 v)) same refl $
             assigns ! (of-opd ! (load ! (from ! (stop !)) (look ! 10 refl))) (from ! (stop !)) (init ! 4 refl (LL.lawful L.the-type L′.the-laws 𝓤 H A W .typed z _ z-is .0)) $
             nothing ! $ owned ! D.the-row (Is D.the-row) ((LL.makes D.the-type D′.the-plain) 𝓤 H A) c _ c-is $ fjoin ! $ owned ! L.the-row (Is L.the-row) ((LL.makes L.the-type L′.the-plain) 𝓤 H A) z _ z-is $ fjoin ! $ nothing ! $ use2 W (raw (B 𝓤 H A at-mem run .pre (to-s z c))) (goes-s z c c-so) $
             calls-at ! fm (B 𝓤 H A at-mem run) known-s (to-s z c) (and-then ! (load ! (from ! (stop !)) (look ! 5 refl)) (and-then ! (load ! (from ! (fld ! change-told (stop !))) (look-in ! 2 (sub ! 6 change-told (whole !)))) (no-more !))) (λ w.
@@ -185,7 +185,7 @@ module _ {M : Type 1} (𝓤 : URA M) (H : Heap 𝓤) (A : Atoms 𝓤) (W : Given
             split ! $ move ! (1 ∷ []) $ use1 W (some (λ (ys : (Unit {0} × (Unit {0} × Unit {0}))). ‵ (lasts sg.ended tt (z, (c, tt)) ys) ⊛ raw (fact 𝓤 (u ≡ seating z (c .turn) (c .fields) (c .digest))))) (id⊢ 𝓤 _) $ choose ! (λ ys.
             split ! $ drop ! $ heard ! (u ≡ seating z (c .turn) (c .fields) (c .digest)) (λ so. split ! $ drop ! $ peeks ! Z.the-row (Is Z.the-row) (shows 𝓤 H A Z.the-row) u (w ∷ []) (λ u-is. drop ! $
             land ! (from ! (stop !)) (init ! 5 refl (LL.lawful Z.the-type Z′.the-laws 𝓤 H A W .typed u _ u-is .0)) $
-            rewrite ! 5 (λ (v : Val). ‵ (fat fullShare Z′.mir l10 0 v)) (ap only (LL.tells Z.the-type Z′.the-laws u _ u-is)) refl $
+            rewrite ! 5 (λ (v : Val). ‵ (fat fullShare Z′.mir l11 0 v)) (ap only (LL.tells Z.the-type Z′.the-laws u _ u-is)) refl $
             forget ! 10 refl $ forget ! 9 refl $ forget ! 8 refl $ forget ! 7 refl $ forget ! 4 refl $ s u so (spelled Z.the-row (LL.vals Z.the-type Z′.the-laws) (LL.tells Z.the-type Z′.the-laws) u _ u-is))))))
 
         -- the slot is stored
@@ -212,10 +212,7 @@ module _ {M : Type 1} (𝓤 : URA M) (H : Heap 𝓤) (A : Atoms 𝓤) (W : Given
       paint nr ow sl md rn rest tv z z-is fits fm known-n ow-is s =
           assigns ! (addr ! (from ! (hop ! (look ! 2 refl) (fld ! owner-at (stop !))))) (from ! (stop !)) (init ! 14 refl (tt, tt)) $
           -- the owners' cell is taken out of the state's, and lent for a lifetime ν
-          use1 W (‵ (fat fullShare (tyArray (tyInt w8) 1024) b (o + 16) (arrayVal (owner-vals ow))) ⊛ raw (all 𝓤 (Entry sl md rn))) (owners (owner-vals ow) sl md rn .out) $ split ! $
-          use1 W (‵ (cellAt fullShare (Table .mir) (table-vals ow) b (o + 16))) (W .laws .at-raw fullShare (tyArray (tyInt w8) 1024) b (o + 16) (arrayVal (owner-vals ow))) $ owned ! Table (Is Table) (array-makes 𝓤 H A W u8 (uint-makes 𝓤 H A W w8) 1024) ow (table-vals ow) ow-is $
-          move ! (1 ∷ 0 ∷ []) $ use2 W (‵ (mem Table .lies ow b (o + 16))) (lies 𝓤 H A W Table table-vals owner-tells ow b (o + 16)) $ lft-new ! tt (λ ν. move ! (1 ∷ []) $
-          use1 W (later (some (λ (γ′ : GName). ‵ (MutRef (named 0) (ν ∷ []) Table .own (owners-args z ow ν γ′ .0) (vptr b (o + 16) ∷ [])) ⊛ ‵ (flent (ν ∷ []) (Body (mem Table) b (o + 16) γ′))))) (lends-ref 𝓤 H A W Table (named 0) (ν ∷ []) ow b (o + 16)) $ await ! tt $ choose ! (λ γ′. split ! $
+          use1 W (table-at 𝓤 H A W b (o + 16) ow ⊛ raw (all 𝓤 (Entry sl md rn))) (owners (owner-vals ow) sl md rn .out) $ split ! $ lent-mut 𝓤 H A W b (o + 16) tt (named 0) ow ow-is (λ ν γ′.
           -- the call: [the reference; the loan; the token; the way back; …]
           nothing ! $ owned ! u8 (Is u8) (uint-makes 𝓤 H A W w8) (z .owner) _ (refl, seat-owner z z-is) $ fjoin ! $ owned ! (Array U.the-row 4) (Is (Array U.the-row 4)) (array-makes 𝓤 H A W U.the-row ((LL.makes U.the-type U′.the-plain) 𝓤 H A) 4) (z .fields .runs) _ (seat-runs z z-is) $ fjoin ! $
           owned ! usize (Is usize) (uint-makes 𝓤 H A W w64) (z .fields .r) _ (refl, seat-r z z-is) $ fjoin ! $ move ! (1 ∷ 0 ∷ []) $ fjoin ! $ nothing ! $ move ! (3 ∷ 0 ∷ []) $ join ! $ use2 W (raw (N 𝓤 H A at-mem run .pre (to-n z ow ν γ′))) (goes-n z ow ν γ′ fits) $
@@ -226,9 +223,7 @@ module _ {M : Type 1} (𝓤 : URA M) (H : Heap 𝓤) (A : Atoms 𝓤) (W : Given
           -- [the token; the last owners; …; the loan at 3; the way back at 4; …]
           land-last ! (from ! (stop !)) (init ! 17 refl (subst (λ (v : Val). T (hasTy tyUnit v) × WT v) (sym (ap only ew)) (tt, tt))) $ exec ! C Λ En rest (atRet En Post) $
           -- the lifetime is ended, and the owners go back into the state
-          split ! $ lft-end ! tt $ move ! (0 ∷ 4 ∷ 2 ∷ []) $ use3 W (later (‵ (mem Table .lies (zs .0) b (o + 16)))) (ref-back 𝓤 H A W Table (ν ∷ []) γ′ (zs .0) b (o + 16)) $ await ! tt $
-          use1 W (‵ (cellAt fullShare (Table .mir) (table-vals (zs .0)) b (o + 16)) ⊛ ‵ (Table .own (zs .0) (table-vals (zs .0)))) (found 𝓤 H A W Table table-vals owner-tells (zs .0) b (o + 16)) $ split ! $ move ! (1 ∷ []) $ peeks ! Table (Is Table) (shows 𝓤 H A Table) (zs .0) (table-vals (zs .0)) (λ new-is. drop ! $
-          use1 W (‵ (fat fullShare (tyArray (tyInt w8) 1024) b (o + 16) (arrayVal (owner-vals (zs .0))))) (W .laws .raw-at fullShare (tyArray (tyInt w8) 1024) b (o + 16) (arrayVal (owner-vals (zs .0)))) $
+          split ! $ move ! (0 ∷ 4 ∷ 2 ∷ []) $ back-mut 𝓤 H A W b (o + 16) tt (zs .0) ν γ′ (λ new-is.
           move ! (3 ∷ []) $ use1 W (raw (Entry sl md rn (arrayVal (owner-vals (zs .0))))) (allE 𝓤 (Entry sl md rn) (arrayVal (owner-vals (zs .0)))) $ move ! (1 ∷ 0 ∷ []) $
           use2 W (cell (vstruct (parts p m (owner-vals (zs .0)) sl md rn))) (apply∗ 𝓤 (H .at fullShare (tyArray (tyInt w8) 1024) b (o + 16) (arrayVal (owner-vals (zs .0)))) (mean 𝓤 H A (cell (vstruct (parts p m (owner-vals (zs .0)) sl md rn))))) $
-          move ! (1 ∷ 2 ∷ []) $ drop ! $ drop ! $ forget ! 14 refl $ forget ! 13 refl $ forget ! 5 refl $ forget ! 3 refl $ s (zs .0) done-so new-is))))))))
+          move ! (1 ∷ 2 ∷ []) $ drop ! $ drop ! $ forget ! 14 refl $ forget ! 13 refl $ forget ! 5 refl $ forget ! 3 refl $ s (zs .0) done-so new-is)))))))

@@ -24,7 +24,7 @@ use Rattle.change.specs.Turns.{changedBy, freshSlot, Fits}
 use Rattle.change.proofs.Given.{given-painted}
 use Rattle.change.proofs.Parts.{none-painted, open-painted, place-fits, seats, seat-fits, first-slot, no-runs}
 use Rattle.decide.specs.Allowed as Allowed
-use Rattle.decide.specs.Looks.{looked}
+use Rattle.decide.specs.Looks.{looked, seenIn}
 use Rattle.twin.specs.declared.Monitor.{Monitor}
 use Rattle.twin.specs.declared.Request.{Request}
 use Rattle.twin.specs.declared.Asked.{Asked}
@@ -34,17 +34,17 @@ use Rattle.twin.specs.Asked.{askedOf}
 use Rattle.twin.proofs.Laws.{given-back}
 use Rattle.twin.proofs.Monitor as monitor
 use Rattle.host.specs.declared.Heard.{Heard}
-use Rattle.host.specs.Host.{Comes, heardOf, noneHeard, stored, hosted, shown, hostAsked, hostStep, lookedFor, hostLooked}
+use Rattle.host.specs.Host.{Comes, heardOf, noneHeard, stored, hosted, shown, hostAsked, hostStep, lookFor, hostLooked}
 
 by-asked : (m : Monitor) (q : Request) (payload memory buffer : List ℕ) (a : Asked) → a ≡ askedOf q → hostAsked a m payload memory buffer ≡ hostStep m q payload memory buffer
 unfolding hostStep
 by-asked m q payload memory buffer a e = ap (λ (x : Asked). hostAsked x m payload memory buffer) e
 
--- what the event looks at, of the state that the twin stands for
+-- what the event sees, of the state that the twin stands for
 module _ (m : Monitor) (q : Request) (e : Event) (s : State) (ea : Known e ≡ askedOf q) (es : s ≡ openedOf m) where
   pub looked-so : looked e s ≡ hostLooked m q
-  unfolding hostLooked
-  looked-so = ap (looked e) es ∙ ap (λ (a : Asked). lookedFor a m) ea
+  unfolding hostLooked looked
+  looked-so = ap (looked e) es ∙ ap (λ (a : Asked). seenIn (openedOf m) (lookFor a (modeOf (m .mode)))) ea
 
 -- a mode is a 64-bit number, and there is an owner for each page
 pub mode-fits : (m : Monitor) (vs : List Val) → Is (row monitor.the-type) m vs → m .mode < 2 ^ 64

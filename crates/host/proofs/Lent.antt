@@ -1,13 +1,15 @@
 -- The lent state's machine value, part by part, and what is known of the state once a part is stored.
 use mathlib.Core.Path.{_≡_, refl, sym, ap, subst, _∙_}
-use Prim.Native.Nat.{ℕ, _<_, _^_}
+use Prim.Native.Nat.{ℕ, zero, suc, _<_, _^_}
 use mathlib.Core.List.{[], _∷_, List, map}
-use lib.ListN.{length, getD, set, length-map}
+use lib.ListN.{length, getD, set, length-map, replicate, length-replicate}
+use lib.Dec.{lit<}
 use mir.Syntax.{w8, w64}
 use mir.Val.{Val, Vals, vint, vcons, vnil, vstruct, vunit}
 use denote.RattleType.{RattleType}
 use denote.Laws.{Is, Tells}
-use denote.Array.{Array, arrayVal}
+use denote.Array.{Array, each, arrayVal}
+use denote.Shadow.{shadow}
 use denote.Builtin.{u8}
 use denote.Struct.Field.{u8-field}
 use denote.Struct.Laws as LL
@@ -109,3 +111,15 @@ module _ (t : Monitor) (is : Is T.the-row t (vals t)) where
 -- the owner table's machine value, told by the table
 pub owner-tells : Tells (Array u8 1024) (Is (Array u8 1024)) (λ (o : List ℕ). arrayVal (owner-vals o) ∷ [])
 owner-tells o vs e = LL.array-laws u8-field LL.u8-laws 1024 .tells (map (λ (v : ℕ). v) o) vs (is-in u8 u8 (λ (v : ℕ). v) (λ x ws h. h) 1024 o vs e)
+
+-- a table of zeros, as an array is made of one byte
+pub zeros-val : (n : ℕ) → replicate n (vint w8 0) ≡ owner-vals (replicate n 0)
+zeros-val zero = refl
+zeros-val (suc n) = ap (λ (l : List Val). vint w8 0 ∷ l) (zeros-val n)
+
+each-zero : (n : ℕ) → shadow (each ℕ (u8 .own) (replicate n 0) (replicate n (vint w8 0)))
+each-zero zero = tt
+each-zero (suc n) = ((refl, lit< tt), each-zero n)
+
+pub zeros-is : (n : ℕ) → Is (Array u8 n) (replicate n 0) (arrayVal (replicate n (vint w8 0)) ∷ [])
+zeros-is n = (replicate n (vint w8 0), ((refl, length-replicate n 0), each-zero n))

@@ -3,5 +3,8 @@ pub mod Arrays
 pub mod Carried
 pub mod Cells
 pub mod Lent
+pub mod Loans
 pub mod Refused
+pub mod Seeing
+pub mod Sweep
 pub mod Told

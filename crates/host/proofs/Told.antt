@@ -1,15 +1,13 @@
 -- What `hear` and `seating` answer, as machine values: where each part stands, and what is known of it. The offsets are numbers, since those that are found for `refl` are the sizes of all fields before, written out wherever they stand.
 use mathlib.Core.Path.{_≡_, refl}
-use Prim.Native.Nat.{ℕ, _<_, _^_}
+use Prim.Native.Nat.{_<_, _^_}
 use mathlib.Core.Option.{some as just}
 use mathlib.Core.List.{[], _∷_, List, map}
 use mir.Syntax.{tyInt, tyBool, tyArray, w8, w64}
 use mir.Val.{Val, vbool, vint, Vals, vcons, vnil}
 use prog.Memory.{fieldOf}
 use types.Kit.{runs}
-use denote.RattleType.{RattleType}
 use denote.Laws.{Is}
-use denote.Builtin.{u8}
 use denote.Array.{Array, arrayVal}
 use denote.Struct.Laws as LL
 use Rattle.fields.specs.declared.Run.{Run}
@@ -29,14 +27,21 @@ use Rattle.change.proofs.Seat as Z
 use Rattle.change.proofs.Seat.Laws as Z′
 use Rattle.twin.proofs.Reply as Q
 use Rattle.twin.proofs.Reply.Laws as Q′
+use Rattle.decide.proofs.Look.Laws as X′
 use Rattle.twin.proofs.Monitor.Laws as T′
 use Rattle.host.specs.declared.Heard.{Heard}
 use Rattle.host.proofs.Heard as R
 use Rattle.host.proofs.Heard.Laws as R′
 use Rattle.host.proofs.Arrays.{is-out}
-use Rattle.host.proofs.Lent.{vals, slot-val, running-val, owner-vals}
+use Rattle.host.proofs.Lent.{vals, slot-val, running-val}
 
 -- where the state's parts stand
+pub pages-at : fieldOf T′.mir 0 ≡ just (tyInt w64, 0)
+pages-at = refl
+
+pub kept-at : fieldOf T′.mir 1 ≡ just (tyInt w64, 8)
+kept-at = refl
+
 pub owner-at : fieldOf T′.mir 2 ≡ just (tyArray (tyInt w8) 1024, 16)
 owner-at = refl
 
@@ -48,6 +53,10 @@ mode-at = refl
 
 pub running-at : fieldOf T′.mir 5 ≡ just (P′.mir, 3352)
 running-at = refl
+
+-- the running record's slot
+pub slot-run : fieldOf P′.mir 0 ≡ just (tyInt w64, 0)
+slot-run = refl
 
 -- where those of what `hear` and `seating` answer do
 pub reply-told : fieldOf R′.mir 0 ≡ just (Q′.mir, 0)
@@ -70,6 +79,15 @@ number-told = refl
 
 pub change-told : fieldOf R′.mir 6 ≡ just (D′.mir, 72)
 change-told = refl
+
+pub slot-looked : fieldOf X′.mir 0 ≡ just (tyInt w64, 0)
+slot-looked = refl
+
+pub page-looked : fieldOf X′.mir 1 ≡ just (tyInt w64, 8)
+page-looked = refl
+
+pub other-looked : fieldOf X′.mir 2 ≡ just (tyInt w64, 16)
+other-looked = refl
 
 pub slot-made : fieldOf Z′.mir 0 ≡ just (L′.mir, 0)
 slot-made = refl
@@ -96,13 +114,6 @@ answers r = answered (LL.val Q.the-type Q′.the-laws (r .reply)) (vbool (r .ste
 -- and `seating`
 abbrev pub seat-parts : Seat → Vals
 seat-parts z = vcons (slot-val (z .slot)) (vcons (LL.val F.the-type F′.the-laws (z .fields)) (vcons (vint w8 (z .owner)) vnil))
-
--- the owner table, as it is lent
-abbrev pub Table : RattleType
-Table = Array u8 1024
-
-abbrev pub table-vals : List ℕ → List Val
-table-vals o = arrayVal (owner-vals o) ∷ []
 
 abbrev pub change-vals : Change → List Val
 change-vals = LL.vals D.the-type D′.the-laws

@@ -7,12 +7,13 @@ use lib.ListN.{getD, set}
 use Rattle.lists.specs.Below.{pick}
 use Rattle.geometry.specs.Geometry.{slotCount}
 use Rattle.painting.specs.Painting.{paintedRuns, RunsFit}
+use Rattle.state.specs.declared.Mode.{Mode}
 use Rattle.state.specs.Zero.{noSlot, zeroRunning}
 use Rattle.events.specs.declared.Answer.the-variants.{Done}
 use Rattle.rules.specs.Act.{Out, step}
 use Rattle.wellformed.specs.declared.Sight.{Sight}
-use Rattle.wellformed.specs.Seen.{nothingSeen}
-use Rattle.decide.specs.Looks.{looked}
+use Rattle.decide.specs.declared.Look.{Look}
+use Rattle.decide.specs.Looks.{at, looking, seenIn}
 use Rattle.change.specs.declared.Change.{Change}
 use Rattle.change.specs.declared.Seat.{Seat}
 use Rattle.change.specs.declared.Turn.the-variants.{Kept}
@@ -23,7 +24,7 @@ use Rattle.twin.specs.declared.Request.{Request}
 use Rattle.twin.specs.declared.Reply.{Reply}
 use Rattle.twin.specs.declared.Asked.{Asked}
 use Rattle.twin.specs.declared.Asked.the-variants.{Known, Unknown}
-use Rattle.twin.specs.Twin.{numberOf, openedOf, shutOf}
+use Rattle.twin.specs.Twin.{modeOf, numberOf, openedOf, shutOf}
 use Rattle.twin.specs.Asked.{askedOf, replyOf, unknownReply}
 use Rattle.host.specs.declared.Heard.{Heard}
 
@@ -49,13 +50,16 @@ hostAsked Unknown m payload memory buffer = hosted unknownReply m memory buffer
 unfoldable pub hostStep : Monitor → Request → List ℕ → List ℕ → List ℕ → Hosted
 hostStep m q payload memory buffer = hostAsked (askedOf q) m payload memory buffer
 
--- what the event that was asked looks at; where none was, nothing
-abbrev pub lookedFor : Asked → Monitor → Sight
-lookedFor (Known e) m = looked e (openedOf m)
-lookedFor Unknown m = nothingSeen
+-- where the event that was asked looks, and what it sees there
+abbrev pub lookFor : Asked → Mode → Look
+lookFor (Known e) m = looking e m
+lookFor Unknown m = at 0 0
+
+abbrev pub hostLooks : Request → ℕ → Look
+hostLooks q n = lookFor (askedOf q) (modeOf n)
 
 unfoldable pub hostLooked : Monitor → Request → Sight
-hostLooked m q = lookedFor (askedOf q) m
+hostLooked m q = seenIn (openedOf m) (hostLooks q (m .mode))
 
 -- the reply to a change, and where it stores
 abbrev pub heardOf : Change → Heard

@@ -1,16 +1,24 @@
 // An event for C: the monitor's state is lent, everything else is a struct by value or a lent slice. It asks nothing of its caller beyond what
 // C owes (host/monitor.h).
 ghost use mathlib.Core.Path.{_≡_};
-ghost use Rattle.host.specs.Host.{Comes, heardOf, noneHeard, hosted, hostStep, hostLooked};
+ghost use lib.ListN.{getD};
+ghost use Rattle.wellformed.specs.Seen.{seenOf};
+ghost use Rattle.wellformed.specs.Steps.{wholeOf, sightOf};
+ghost use Rattle.twin.specs.Twin.{modeOf, openedOf};
+ghost use Rattle.host.specs.Host.{Comes, heardOf, noneHeard, hosted, hostStep, hostLooks, hostLooked};
 ghost use Rattle.host.specs.Promise.{RefusalsKeepAll};
 use change::Change;
+use decide::Look;
 use events::Answer;
+use geometry::Geometry;
 use state::Running;
+use state::Slot;
 use twin::Asked;
 use twin::Monitor;
 use twin::Reply;
 use twin::Request;
 use wellformed::Sight;
+use wellformed::Test;
 
 // What an event comes to: its reply, and what is stored where the state stands: the mode and the running record; a slot, which the change fills.
 pub struct Heard {
@@ -23,18 +31,71 @@ pub struct Heard {
     pub change: Change,
 }
 
-// What the event looks at. C's state is read for it once, and read again for what the event does: so it is copied for the test alone.
-fn looked(m: Monitor, q: Request) -> Sight
-    ensures { λ r. ⌜ r ≡ hostLooked m q ⌝ }
+// Where the event looks; where none was asked, anywhere.
+fn looking(q: Request, mode: usize) -> Look
+    ensures { λ r. ⌜ r ≡ hostLooks q mode ⌝ }
 {
     let a = twin::event_asked(q);
     match a {
-        Asked::Known(e) => {
-            let s = twin::opened(m);
-            decide::looked(e, s)
+        Asked::Known(e) => decide::looking(e, twin::mode_of(mode)),
+        Asked::Unknown => {
+            Look {
+                slot: 0,
+                page: 0,
+                other: 0,
+            }
         }
-        Asked::Unknown => wellformed::unseen(),
     }
+}
+
+// The end of the test, of C's mode.
+fn handed(
+    w: Test,
+    t: &[u8; Geometry::MOST_PAGES],
+    owner: &[u8; Geometry::MOST_PAGES],
+    pages: usize,
+    mode: usize,
+    running: Running,
+    y: Slot,
+    slot: Slot,
+    page: usize,
+    other: usize,
+) -> Sight
+    ensures { λ r. ⌜ r ≡ sightOf (wholeOf w (now (t .entry)) (now (owner .entry)) pages (modeOf mode) running (y .card)) slot (getD (now (owner .entry)) page 0) (getD (now (owner .entry)) other 0) ⌝ }
+{
+    let card = y.card;
+    let to = twin::mode_of(mode);
+    wellformed::sighted(w, t, owner, pages, to, running, card, slot, page, other)
+}
+
+// The test of the state where it stands, as `wellformed::seen` has it of one by value. The state comes back as it was.
+fn sees(m: &mut Monitor, n: usize, page: usize, other: usize) -> Sight
+    ensures { λ r. ⌜ (r ≡ seenOf (openedOf (now (m .entry))) n page other) × (now (m .exit) ≡ now (m .entry)) ⌝ }
+{
+    let mut t = [0u8; Geometry::MOST_PAGES];
+    let mut w = wellformed::begun(m.pages, m.kept, &mut t);
+    let mut k: usize = 0;
+    while k < Geometry::SLOTS {
+        let x = m.slots[k];
+        w = wellformed::tried(w, x, k, &m.owner, &mut t);
+        k += 1;
+    }
+    let j = m.running.slot % Geometry::SLOTS;
+    let y = m.slots[j];
+    let i = n % Geometry::SLOTS;
+    let slot = m.slots[i];
+    handed(
+        w,
+        &t,
+        &m.owner,
+        m.pages,
+        m.mode,
+        m.running,
+        y,
+        slot,
+        page,
+        other,
+    )
 }
 
 // The reply, and where the change stores.
@@ -115,7 +176,8 @@ pub extern "C" fn monitor_event(
 ) -> Reply
     ensures { λ r. ⌜ hosted r (now (m .exit)) (now (memory .exit)) (now (buffer .exit)) ≡ hostStep (now (m .entry)) q (now (payload .entry)) (now (memory .entry)) (now (buffer .entry)) ⌝ }
 {
-    let x = looked(*m, q);
+    let l = looking(q, m.mode);
+    let x = sees(m, l.slot, l.page, l.other);
     let h = hear(*m, q, x, payload, memory, buffer);
     if h.steers {
         m.mode = h.mode;

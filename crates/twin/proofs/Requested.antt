@@ -1,13 +1,13 @@
 -- The event that a request names, by its kind and source.
 use Prim.Native.Nat.{ℕ}
-use mathlib.Core.Path.{_≡_, sym, ap, _∙_}
+use mathlib.Core.Path.{_≡_, sym, ap}
 use mathlib.Core.Logic.{_≢_}
 use borrow.Author.Tests.{ne-eqb}
-use Rattle.memory.specs.declared.Source.the-variants as source
-use Rattle.events.specs.declared.Event.the-variants.{Register, Unregister, Call, Return, Jump, Read, Write, DeviceRead, DeviceWrite, Extend, PcrRead}
+use Rattle.memory.specs.declared.Source.the-variants.{Payload, Memory}
+use Rattle.events.specs.declared.Event.the-variants.{Register, Unregister, Call, Return, Jump, Read, Write, DeviceRead, DeviceWrite, PcrRead}
 use Rattle.twin.specs.declared.Request.{Request}
 use Rattle.twin.specs.declared.Asked.the-variants.{Known, Unknown}
-use Rattle.twin.specs.Asked.{extendAs, askedAs, askedOf}
+use Rattle.twin.specs.Asked.{extendBy, extendAs, askedAs, askedOf}
 
 by-kind : (q : Request) (n : ℕ) → q .kind ≡ n → askedAs n q ≡ askedOf q
 by-kind q n e = sym (ap (λ (k : ℕ). askedAs k q) e)
@@ -56,24 +56,24 @@ unfolding askedAs
 asked-11 q e = by-kind q 11 e
 
 -- the tenth kind is the extend's source
-as-extend : (q : Request) → q .kind ≡ 10 → extendAs (q .source) q ≡ askedOf q
+pub asked-10 : (q : Request) → q .kind ≡ 10 → extendAs (q .source) q ≡ askedOf q
 unfolding askedAs
-as-extend q e = by-kind q 10 e
+asked-10 q e = by-kind q 10 e
 
-pub asked-payload : (q : Request) → q .kind ≡ 10 → q .source ≡ 1 → Known (Extend (q .index) source.Payload (q .address) (q .length)) ≡ askedOf q
+pub from-payload : (q : Request) → q .source ≡ 1 → extendBy q Payload ≡ extendAs (q .source) q
 unfolding extendAs
-asked-payload q e s = by-source q 1 s ∙ as-extend q e
+from-payload q e = by-source q 1 e
 
-pub asked-memory : (q : Request) → q .kind ≡ 10 → q .source ≡ 2 → Known (Extend (q .index) source.Memory (q .address) (q .length)) ≡ askedOf q
+pub from-memory : (q : Request) → q .source ≡ 2 → extendBy q Memory ≡ extendAs (q .source) q
 unfolding extendAs
-asked-memory q e s = by-source q 2 s ∙ as-extend q e
+from-memory q e = by-source q 2 e
 
 no-source : (s : ℕ) (q : Request) → s ≢ 1 → s ≢ 2 → extendAs s q ≡ Unknown
 unfolding extendAs
 no-source s q a b = rw (ne-eqb s 1 a, ne-eqb s 2 b)
 
-pub asked-nowhere : (q : Request) → q .kind ≡ 10 → q .source ≢ 1 → q .source ≢ 2 → Unknown ≡ askedOf q
-asked-nowhere q e a b = sym (no-source (q .source) q a b) ∙ as-extend q e
+pub from-nowhere : (q : Request) → q .source ≢ 1 → q .source ≢ 2 → Unknown ≡ extendAs (q .source) q
+from-nowhere q a b = sym (no-source (q .source) q a b)
 
 no-kind : (k : ℕ) (q : Request) → k ≢ 1 → k ≢ 2 → k ≢ 3 → k ≢ 4 → k ≢ 5 → k ≢ 6 → k ≢ 7 → k ≢ 8 → k ≢ 9 → k ≢ 10 → k ≢ 11 → askedAs k q ≡ Unknown
 unfolding askedAs

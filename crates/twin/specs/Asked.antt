@@ -3,7 +3,8 @@ use Prim.Native.Nat.{ℕ}
 use mathlib.Core.List.{List}
 use lib.Dec.{eqb}
 use Rattle.lists.specs.Below.{pick}
-use Rattle.memory.specs.declared.Source.the-variants as source
+use Rattle.memory.specs.declared.Source.{Source}
+use Rattle.memory.specs.declared.Source.the-variants.{Payload, Memory}
 use Rattle.events.specs.declared.Event.the-variants.{Register, Unregister, Call, Return, Jump, Read, Write, DeviceRead, DeviceWrite, Extend, PcrRead}
 use Rattle.events.specs.declared.Answer.{Answer}
 use Rattle.events.specs.declared.Answer.the-variants as answer
@@ -12,12 +13,12 @@ use Rattle.twin.specs.declared.Reply.{Reply}
 use Rattle.twin.specs.declared.Asked.{Asked}
 use Rattle.twin.specs.declared.Asked.the-variants.{Known, Unknown}
 
+abbrev pub extendBy : Request → Source → Asked
+extendBy q from = Known (Extend (q .index) from (q .address) (q .length))
+
 -- an extend's source: 1 payload, 2 memory
 unfoldable pub extendAs : ℕ → Request → Asked
-extendAs s q =
-    pick (eqb s 1) (Known (Extend (q .index) source.Payload (q .address) (q .length)))
-    (pick (eqb s 2) (Known (Extend (q .index) source.Memory (q .address) (q .length)))
-    Unknown)
+extendAs s q = pick (eqb s 1) (extendBy q Payload) (pick (eqb s 2) (extendBy q Memory) Unknown)
 
 -- the kinds, in document 01's order
 unfoldable pub askedAs : ℕ → Request → Asked

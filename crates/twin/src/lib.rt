@@ -1,7 +1,7 @@
 // The state, events and answers as C hands them over: numbers and arrays, no enum. What crosses, and how it is read here.
 ghost use mathlib.Core.Path.{_≡_};
 ghost use Rattle.twin.specs.Twin.{modeOf, numberOf, openedOf, shutOf};
-ghost use Rattle.twin.specs.Asked.{askedOf, reply as replyWith, replyOf, unknownReply};
+ghost use Rattle.twin.specs.Asked.{extendBy, extendAs, askedOf, reply as replyWith, replyOf, unknownReply};
 ghost use Rattle.twin.specs.Promise.{AsGiven, Told, Answered};
 use events::Answer;
 use events::Event;
@@ -51,7 +51,7 @@ pub enum Asked {
     Unknown,
 }
 
-fn mode_of(m: usize) -> Mode
+pub fn mode_of(m: usize) -> Mode
     ensures { λ r. ⌜ r ≡ modeOf m ⌝ }
 {
     if m == 0 {
@@ -106,76 +106,64 @@ pub fn shut(s: State) -> Monitor
     }
 }
 
+fn extend_of(q: Request, source: Source) -> Asked
+    ensures { λ r. ⌜ r ≡ extendBy q source ⌝ }
+{
+    Asked::Known(Event::Extend {
+        index: q.index,
+        source,
+        address: q.address,
+        length: q.length,
+    })
+}
+
+// An extend, by its source.
+fn extend_asked(q: Request) -> Asked
+    ensures { λ r. ⌜ r ≡ extendAs (q .source) q ⌝ }
+{
+    let source = q.source;
+    match source {
+        1 => extend_of(q, Source::Payload),
+        2 => extend_of(q, Source::Memory),
+        _ => Asked::Unknown,
+    }
+}
+
 // The event that a request names.
 pub fn event_asked(q: Request) -> Asked
     ensures { λ r. ⌜ r ≡ askedOf q ⌝ }
 {
-    let k = q.kind;
-    let source = q.source;
-    if k == 1 {
-        return Asked::Known(Event::Register { mark: q.mark });
-    }
-    if k == 2 {
-        return Asked::Known(Event::Unregister {
+    let kind = q.kind;
+    match kind {
+        1 => Asked::Known(Event::Register { mark: q.mark }),
+        2 => Asked::Known(Event::Unregister {
             mark: q.mark,
             slot: q.slot,
-        });
-    }
-    if k == 3 {
-        return Asked::Known(Event::Call {
-            mark: q.mark,
-            address: q.address,
-            input: q.input,
-            output: q.output,
-        });
-    }
-    if k == 4 {
-        return Asked::Known(Event::Return);
-    }
-    if k == 5 {
-        return Asked::Known(Event::Jump { address: q.address });
-    }
-    if k == 6 {
-        return Asked::Known(Event::Read {
+        }),
+        3 => {
+            Asked::Known(Event::Call {
+                mark: q.mark,
+                address: q.address,
+                input: q.input,
+                output: q.output,
+            })
+        }
+        4 => Asked::Known(Event::Return),
+        5 => Asked::Known(Event::Jump { address: q.address }),
+        6 => Asked::Known(Event::Read {
             address: q.address,
             length: q.length,
-        });
-    }
-    if k == 7 {
-        return Asked::Known(Event::Write { address: q.address });
-    }
-    if k == 8 {
-        return Asked::Known(Event::DeviceRead {
+        }),
+        7 => Asked::Known(Event::Write { address: q.address }),
+        8 => Asked::Known(Event::DeviceRead {
             address: q.address,
             length: q.length,
-        });
+        }),
+        9 => Asked::Known(Event::DeviceWrite { address: q.address }),
+        10 => extend_asked(q),
+        11 => Asked::Known(Event::PcrRead { index: q.index }),
+        _ => Asked::Unknown,
     }
-    if k == 9 {
-        return Asked::Known(Event::DeviceWrite { address: q.address });
-    }
-    if k == 10 {
-        if source == 1 {
-            return Asked::Known(Event::Extend {
-                index: q.index,
-                source: Source::Payload,
-                address: q.address,
-                length: q.length,
-            });
-        }
-        if source == 2 {
-            return Asked::Known(Event::Extend {
-                index: q.index,
-                source: Source::Memory,
-                address: q.address,
-                length: q.length,
-            });
-        }
-        return Asked::Unknown;
-    }
-    if k == 11 {
-        return Asked::Known(Event::PcrRead { index: q.index });
-    }
-    Asked::Unknown
 }
 
 fn reply_of(number: u8, kind: u8, value: usize) -> Reply

@@ -1,4 +1,5 @@
 -- One outcome for each input: the functions for C.
+use Rattle.twin.proofs.mode_of as twin-mode-of
 use Rattle.twin.proofs.number_of as twin-number-of
 use Rattle.twin.proofs.opened as twin-opened
 use Rattle.twin.proofs.shut as twin-shut
@@ -24,6 +25,7 @@ abbrev pub host-monitor-event-says : Says host-monitor-event.ended
 host-monitor-event-says κs a z e = told (host-monitor-event.clauses (w₀ .𝓤) (w₀ .H) (w₀ .𝓖 .A) (w₀ .𝓜 .mem) (w₀ .𝓡 .run) κs a .ensures tt z e) (r-last _)
 
 pub record Board : Type 0 where
+  pub twin-mode-of-one : OneOutcome twin-mode-of.ended twin-mode-of.Reads.Learnt
   pub twin-number-of-one : OneOutcome twin-number-of.ended twin-number-of.Reads.Learnt
   pub twin-opened-one : OneOutcome twin-opened.ended twin-opened.Reads.Learnt
   pub twin-shut-one : OneOutcome twin-shut.ended twin-shut.Reads.Learnt

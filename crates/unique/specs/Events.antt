@@ -37,6 +37,7 @@ use Rattle.enroll.proofs.free.free_slot as enroll-free-slot
 use Rattle.enroll.proofs.measure.measured as enroll-measured
 use Rattle.enroll.proofs.register.register as enroll-register
 use Rattle.extend.proofs.extend.extend as extend-extend
+use Rattle.decide.proofs.looking as decide-looking
 use Rattle.decide.proofs.looked as decide-looked
 use Rattle.decide.proofs.decided as decide-decided
 use Rattle.monitor.proofs.step as monitor-step
@@ -94,6 +95,7 @@ pub record Events : Type 0 where
   pub enroll-measured-one : OneOutcome enroll-measured.ended enroll-measured.Reads.Learnt
   pub enroll-register-one : OneView enroll-register.ended enroll-register.Reads.Learnt (λ κs a z w. settled (a .0) z)
   pub extend-extend-one : OneView extend-extend.ended extend-extend.Reads.Learnt (λ κs a z w. settled (a .0) z)
+  pub decide-looking-one : OneOutcome decide-looking.ended decide-looking.Reads.Learnt
   pub decide-looked-one : OneOutcome decide-looked.ended decide-looked.Reads.Learnt
   pub decide-decided-one : OneView decide-decided.ended decide-decided.Reads.Learnt (λ κs a z w. outOf (settled (a .1 .1 .1 .0) z) (w .1 .1 .1 .1 .0) (w .1 .1 .1 .1 .1 .0))
   pub monitor-step-one : OneOutcome monitor-step.ended monitor-step.Reads.Learnt

@@ -43,6 +43,9 @@ use Rattle.state.proofs.Slot.extended as state-extended
 use Rattle.state.proofs.Slot.entry_found as state-entry-found
 use Rattle.wellformed.proofs.sizes_right as wellformed-sizes-right
 use Rattle.wellformed.proofs.unseen as wellformed-unseen
+use Rattle.wellformed.proofs.begun as wellformed-begun
+use Rattle.wellformed.proofs.tried as wellformed-tried
+use Rattle.wellformed.proofs.sighted as wellformed-sighted
 use Rattle.wellformed.proofs.seen as wellformed-seen
 use Rattle.wellformed.proofs.state_right as wellformed-state-right
 use Rattle.wellformed.proofs.well_formed as wellformed-well-formed
@@ -92,6 +95,9 @@ pub record Parts : Type 0 where
   pub state-entry-found-one : OneOutcome state-entry-found.ended state-entry-found.Reads.Learnt
   pub wellformed-sizes-right-one : OneOutcome wellformed-sizes-right.ended wellformed-sizes-right.Reads.Learnt
   pub wellformed-unseen-one : OneOutcome wellformed-unseen.ended wellformed-unseen.Reads.Learnt
+  pub wellformed-begun-one : OneOutcome wellformed-begun.ended wellformed-begun.Reads.Learnt
+  pub wellformed-tried-one : OneOutcome wellformed-tried.ended wellformed-tried.Reads.Learnt
+  pub wellformed-sighted-one : OneOutcome wellformed-sighted.ended wellformed-sighted.Reads.Learnt
   pub wellformed-seen-one : OneOutcome wellformed-seen.ended wellformed-seen.Reads.Learnt
   pub wellformed-state-right-one : OneOutcome wellformed-state-right.ended wellformed-state-right.Reads.Learnt
   pub wellformed-well-formed-one : OneOutcome wellformed-well-formed.ended wellformed-well-formed.Reads.Learnt

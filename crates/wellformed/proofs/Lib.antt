@@ -7,3 +7,4 @@ pub mod Pages
 pub mod Slots
 pub mod Whole
 pub mod Sights
+pub mod Going

@@ -10,20 +10,19 @@ use lib.ListN.{getD, replicate}
 use lib.Dec.{eqb}
 use lib.Bits.{bitOr}
 use Rattle.lists.specs.Below.{all-below}
-use Rattle.lists.proofs.Logic.{and-l}
 use Rattle.lists.proofs.All.{all-none, all-more, all-stop, all-end, bits-none, bits-step, or-zero}
 use Rattle.geometry.specs.Geometry.{mostPages, slotCount}
 use Rattle.fields.specs.Fields.{entryPlaces}
-use Rattle.painting.specs.Painting.{painted, paintedRuns, ownedRun, alike, RunsFit}
+use Rattle.painting.specs.Painting.{painted, paintedRuns, ownedRun, alike}
 use Rattle.state.specs.declared.Card.{Card}
 use Rattle.state.specs.declared.State.{State}
 use Rattle.state.specs.Zero.{noSlot}
 use Rattle.state.specs.Face.{faceOf}
 use Rattle.state.proofs.Faces.{card-at}
-use Rattle.wellformed.specs.WellFormed.{cardRight, monitors, stateRight}
+use Rattle.wellformed.specs.WellFormed.{monitors, stateRight}
 use Rattle.wellformed.specs.Tests.{slotRightAt, modeTest}
 use Rattle.wellformed.proofs.Facts.{Sizes, sizes-of}
-use Rattle.wellformed.proofs.Pages.{fieldsAt, paintedTo, ownedSlot, pagesFast, runs-fit, pages-same}
+use Rattle.wellformed.proofs.Pages.{fieldsAt, paintedTo, ownedSlot, pagesFast, pages-same}
 use Rattle.wellformed.proofs.Slots.{cards-of, card-of, entries-few, mode-same, state-parts}
 
 abbrev pub cardIn : State → ℕ → Card
@@ -45,9 +44,6 @@ module _ (s : State) where
   gone-wrong k l h = rw (state-parts s, ← all-stop (slotRightAt s) slotCount k l h, and-false)
 
   module _ (k bad : ℕ) (t : List ℕ) (g : Gone s t bad k) where
-    pub gone-fit : slotRightAt s k ≡ true → RunsFit (cardIn s k .fields .r) (cardIn s k .fields .runs)
-    gone-fit h = runs-fit (cardIn s k) (s .pages - s .kept) (omega (arith, g .sizes .most)) (and-l (cardRight (cardIn s k) (s .pages - s .kept)) _ h)
-
     pub gone-step : (off : ℕ) (w : List ℕ) → slotRightAt s k ≡ true
         → eqb off 0 ≡ all-below (cardIn s k .fields .r) (ownedRun (s .owner) (cardIn s k .fields .runs) (k + 1))
         → w ≡ paintedRuns t (cardIn s k .fields .runs) (k + 1) (cardIn s k .fields .r)

@@ -14,6 +14,7 @@ ghost use Rattle.fields.specs.Pages.{pagesUnder};
 ghost use Rattle.wellformed.specs.WellFormed.{sizesRight, fieldsZero, byteZeroAt, pcrsZero, runningZero, outputAt, stateRight, wellFormed};
 ghost use Rattle.wellformed.specs.Tests.{slotRight, outTest, runningTest, modeTest};
 ghost use Rattle.wellformed.specs.Seen.{nothingSeen, seenOf};
+ghost use Rattle.wellformed.specs.Steps.{begunOf, begunTable, triedOf, triedTable, wholeOf, sightOf};
 use fields::Entry;
 use fields::Fields;
 use fields::Run;
@@ -206,50 +207,125 @@ fn owner_of(owner: &[u8], page: usize) -> u8
     0
 }
 
-// The test, and slot n (counted round from 8 on). `bad` stays zero while each slot's pages are its own.
-pub fn seen(s: State, n: usize, page: usize, other: usize) -> Sight
-    ensures { λ r. ⌜ r ≡ seenOf s n page other ⌝ }
+// ---- the test, in three steps, so that a state that is lent can be tested too
+// What the test has found so far, and the first of the monitor's pages.
+pub struct Test {
+    pub right: bool,
+    pub top: usize,
+}
+
+// The sizes; the monitor's pages are painted.
+pub fn begun(pages: usize, kept: usize, t: &mut [u8; Geometry::MOST_PAGES]) -> Test
+    ensures { λ r. ⌜ (r ≡ begunOf pages kept) × (now (t .exit) ≡ begunTable pages kept (now (t .entry))) ⌝ }
 {
-    if !sizes_right(s.pages, s.kept) {
+    if !sizes_right(pages, kept) {
+        return Test {
+            right: false,
+            top: 0,
+        };
+    }
+    let top = pages - kept;
+    painting::paint(t, top, kept, MONITORS);
+    Test { right: true, top }
+}
+
+// Slot k, which holds x: its rules, and whether its pages are its own; they are painted. What is out of reach is not right.
+pub fn tried(
+    w: Test,
+    x: Slot,
+    k: usize,
+    owner: &[u8; Geometry::MOST_PAGES],
+    t: &mut [u8; Geometry::MOST_PAGES],
+) -> Test
+    ensures { λ r. ⌜ (r ≡ triedOf w x k (now (owner .entry))) × (now (t .exit) ≡ triedTable w x k (now (t .entry))) ⌝ }
+{
+    if !(w.right & ((k < Geometry::SLOTS) & (w.top <= Geometry::MOST_PAGES))) {
+        return Test {
+            right: false,
+            top: w.top,
+        };
+    }
+    if !slot_right(x, w.top) {
+        return Test {
+            right: false,
+            top: w.top,
+        };
+    }
+    let f = x.card.fields;
+    let runs = f.runs;
+    let v = (k + 1) as u8;
+    let off = painting::runs_off(owner, f.r, runs, v);
+    painting::paint_runs(t, f.r, runs, v);
+    Test {
+        right: off == 0,
+        top: w.top,
+    }
+}
+
+// The table, the mode and the running record; what is handed out. What is out of bounds is not right.
+pub fn sighted(
+    w: Test,
+    t: &[u8; Geometry::MOST_PAGES],
+    owner: &[u8; Geometry::MOST_PAGES],
+    pages: usize,
+    mode: Mode,
+    running: Running,
+    card: Card,
+    slot: Slot,
+    page: usize,
+    other: usize,
+) -> Sight
+    ensures { λ r. ⌜ r ≡ sightOf (wholeOf w (now (t .entry)) (now (owner .entry)) pages mode running card) slot (getD (now (owner .entry)) page 0) (getD (now (owner .entry)) other 0) ⌝ }
+{
+    if !(w.right & ((pages <= Geometry::MOST_PAGES) & (card.fields.e <= Fields::ENTRIES))) {
         return unseen();
     }
-    let top = s.pages - s.kept;
-    let mut t = [0u8; Geometry::MOST_PAGES];
-    painting::paint(&mut t, top, s.kept, MONITORS);
-    let mut bad: u8 = 0;
-    let mut k: usize = 0;
-    while k < Geometry::SLOTS {
-        let x = s.slots[k];
-        if !slot_right(x, top) {
-            return unseen();
-        }
-        let f = x.card.fields;
-        let runs = f.runs;
-        let v = (k + 1) as u8;
-        bad = bad | painting::runs_off(&s.owner, f.r, runs, v);
-        painting::paint_runs(&mut t, f.r, runs, v);
-        k += 1;
-    }
-    bad = bad | painting::differ(&t, &s.owner);
-    let running = s.running;
-    let j = running.slot % Geometry::SLOTS;
-    let y = s.slots[j];
-    let card = y.card;
-    let mode = s.mode;
-    let right = mode_right(mode, running, card, &s.owner, s.pages);
-    if !((bad == 0) & right) {
+    let off = painting::differ(t, owner);
+    let right = mode_right(mode, running, card, owner, pages);
+    if !((off == 0) & right) {
         return unseen();
     }
-    let i = n % Geometry::SLOTS;
-    let slot = s.slots[i];
-    let first = owner_of(&s.owner, page);
-    let second = owner_of(&s.owner, other);
+    let first = owner_of(owner, page);
+    let second = owner_of(owner, other);
     Sight {
         right: true,
         slot: slot,
         page: first,
         other: second,
     }
+}
+
+// The test, and slot n (counted round from 8 on).
+pub fn seen(s: State, n: usize, page: usize, other: usize) -> Sight
+    ensures { λ r. ⌜ r ≡ seenOf s n page other ⌝ }
+{
+    let mut t = [0u8; Geometry::MOST_PAGES];
+    let mut w = begun(s.pages, s.kept, &mut t);
+    let mut k: usize = 0;
+    while k < Geometry::SLOTS {
+        let x = s.slots[k];
+        w = tried(w, x, k, &s.owner, &mut t);
+        k += 1;
+    }
+    let running = s.running;
+    let j = running.slot % Geometry::SLOTS;
+    let y = s.slots[j];
+    let card = y.card;
+    let mode = s.mode;
+    let i = n % Geometry::SLOTS;
+    let slot = s.slots[i];
+    sighted(
+        w,
+        &t,
+        &s.owner,
+        s.pages,
+        mode,
+        running,
+        card,
+        slot,
+        page,
+        other,
+    )
 }
 
 pub fn state_right(s: State) -> bool

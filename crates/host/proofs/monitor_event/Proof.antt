@@ -1,4 +1,4 @@
--- `host::monitor_event` meets its contract: a walk of its MIR, by hand. The state is read whole for `looked`, and again for `hear`; then each part that the event changes is stored where it stands: the mode and the running record, a slot, for which `change::seating` is called on what stood there, and the owners, which are lent to `painting::paint_runs`.
+-- `host::monitor_event` meets its contract: a walk of its MIR, by hand. What the event sees stands in Seeing; the state is read for `hear`; then each part that the event changes is stored where it stands: the mode and the running record, a slot, for which `change::seating` is called on what stood there, and the owners, which are lent to `painting::paint_runs`.
 -- A `&mut` slice goes to the callee at its own lifetime, share and name, and a `&` slice as a copy. The arms stand in Arms, what is known of the state's parts in Lent, of what was answered in Told.
 --     exits                from what is left of the borrows to the `post`, at a reply and a state that the clause allows
 --     ends, closed         the code after the last branch: the borrow is closed at the state that stands in its cell, the reply is read and every local is freed
@@ -56,6 +56,8 @@ use Rattle.change.specs.declared.Seat.{Seat}
 use Rattle.change.specs.Parts.{seating}
 use Rattle.change.proofs.Change as D
 use Rattle.change.proofs.Change.Laws as D′
+use Rattle.decide.proofs.Look as X
+use Rattle.decide.proofs.Look.Laws as X′
 use Rattle.wellformed.specs.declared.Sight.{Sight}
 use Rattle.wellformed.proofs.Sight as S
 use Rattle.wellformed.proofs.Sight.Laws as S′
@@ -76,10 +78,13 @@ use Rattle.host.proofs.Lent.{spelled, vals, slot-val, running-val, owne
 use Rattle.host.proofs.Cells.{typeOf, holds, fails}
 use Rattle.host.proofs.Told.{reply-told, steers-told, seats-told, answers, known-reply, known-mode, known-running, known-number, known-change, seat-slot}
 use Rattle.host.proofs.Arms.{told, steers, seats, B, N, En, on, held, steer, find, fill, paint}
-use Rattle.host.proofs.looked as k
-use Rattle.host.proofs.looked.Symbol as k-def
-use Rattle.host.proofs.looked.Symbol.{name as #k}
-use Rattle.host.proofs.looked.Met as k-thm
+use Rattle.host.proofs.Seeing.{K, Y, look-at, seeing}
+use Rattle.host.proofs.looking.Symbol as k-def
+use Rattle.host.proofs.looking.Symbol.{name as #k}
+use Rattle.host.proofs.looking.Met as k-thm
+use Rattle.host.proofs.sees.Symbol as v-def
+use Rattle.host.proofs.sees.Symbol.{name as #v}
+use Rattle.host.proofs.sees.Met as v-thm
 use Rattle.host.proofs.hear as g
 use Rattle.host.proofs.hear.Symbol as g-def
 use Rattle.host.proofs.hear.Symbol.{name as #g}
@@ -107,7 +112,7 @@ abbrev τ : ℕ → Ty
 
 -- a branch on what was told, and what comes after it
 abbrev turn : ℕ → Code → Code → Code
-turn k a rest = seq (assign (place 16 []) (rvOpd (copy (told k)))) (seq (cond (copy (place 16 [])) a skip) rest)
+turn k a rest = seq (assign (place 19 []) (rvOpd (copy (told k)))) (seq (cond (copy (place 19 [])) a skip) rest)
 
 abbrev last : Code
 last = seq (assign (place 0 []) (rvOpd (copy (told 0)))) return
@@ -116,9 +121,6 @@ abbrev second : Code
 second = turn 4 seats last
 
 -- the contracts that the proof cites
-abbrev K : {M : Type 1} (𝓤 : URA M) (H : Heap 𝓤) (A : Atoms 𝓤) (mem : Memory → SProp 𝓤) (run : Routine → Fun 𝓤) → Contract 𝓤
-K 𝓤 H A mem run = tripleOf 𝓤 H A k.signature (k.spec 𝓤 H A mem run)
-
 abbrev G : {M : Type 1} (𝓤 : URA M) (H : Heap 𝓤) (A : Atoms 𝓤) (mem : Memory → SProp 𝓤) (run : Routine → Fun 𝓤) → Contract 𝓤
 G 𝓤 H A mem run = tripleOf 𝓤 H A g.signature (g.spec 𝓤 H A mem run)
 
@@ -155,12 +157,6 @@ module _ {M : Type 1} (𝓤 : URA M) (H : Heap 𝓤) (A : Atoms 𝓤) (W : Given
       owned ! Q.the-row (Is Q.the-row) ((LL.makes Q.the-type Q′.the-plain) 𝓤 H A) reply _ fits $ move ! (1 ∷ 0 ∷ []) $ done !
 
   -- what the callees' triples bind outside, and what they ask
-  abbrev to-k : K 𝓤 H A at-mem run .Ghost
-  to-k = ((tt, tt, tt, (h, (q, tt)), (vals h, (at .1 .0, tt))), tt)
-
-  goes-k : ent 𝓤 (sep 𝓤 (sem 𝓤 H A ftrue) (sem 𝓤 H A (owns (T.the-row ∷ E0.the-row ∷ []) (h, (q, tt)) (vals h, (at .1 .0, tt))))) (K 𝓤 H A at-mem run .pre to-k)
-  goes-k = qed W (‵ ftrue ∷ ‵ (owns (T.the-row ∷ E0.the-row ∷ []) (h, (q, tt)) (vals h, (at .1 .0, tt))) ∷ []) ∵ join ! $ frame ! $ done !
-
   abbrev args : Sight → (Monitor × (Request × (Sight × (RefT (List ℕ) × (RefT (List ℕ) × (RefT (List ℕ) × Unit {0}))))))
   args y = (h, (q, (y, x .1 .1)))
 
@@ -173,32 +169,32 @@ module _ {M : Type 1} (𝓤 : URA M) (H : Heap 𝓤) (A : Atoms 𝓤) (W : Given
   goes-g : (y : Sight) → y ≡ hostLooked h q → ent 𝓤 (sep 𝓤 (sep 𝓤 (A .lft κ1 q1) (sep 𝓤 (A .lft κ2 q2) (sep 𝓤 (A .lft κ3 q3) (sem 𝓤 H A ftrue)))) (sem 𝓤 H A (owns (T.the-row ∷ E0.the-row ∷ S.the-row ∷ ShrSlice (named 1) κ1 u8 ∷ MutSlice (named 2) κ2 u8 ∷ MutSlice (named 3) κ3 u8 ∷ []) (args y) (given y)))) (G 𝓤 H A at-mem run .pre (to-g y))
   goes-g y seen = qed W ((‵ (flft κ1 q1) ⊛ ‵ (flft κ2 q2) ⊛ ‵ (flft κ3 q3) ⊛ ‵ ftrue) ∷ ‵ (owns (T.the-row ∷ E0.the-row ∷ S.the-row ∷ ShrSlice (named 1) κ1 u8 ∷ MutSlice (named 2) κ2 u8 ∷ MutSlice (named 3) κ3 u8 ∷ []) (args y) (given y)) ∷ []) ∵ says ! seen $ done !
 
-  module _ (C : Calls 𝓤 H) (Λ : Loops 𝓤 H) (l0 l1 l2 l3 l4 l5 l6 l7 l8 l9 l10 l11 l12 l13 l14 l15 l16 l17 l18 l19 l20 l21 l22 l23 l24 : ℕ) where
+  module _ (C : Calls 𝓤 H) (Λ : Loops 𝓤 H) (l0 l1 l2 l3 l4 l5 l6 l7 l8 l9 l10 l11 l12 l13 l14 l15 l16 l17 l18 l19 l20 l21 l22 l23 l24 l25 l26 l27 : ℕ) where
     abbrev Ev : Env 𝓤 H
-    Ev = En 𝓤 H A W at-mem run b o C Λ Post τ l0 l1 l2 l3 l4 l5 l6 l7 l8 l9 l10 l11 l12 l13 l14 l15 l16 l17 l18 l19 l20 l21 l22 l23 l24
+    Ev = En 𝓤 H A W at-mem run b o C Λ Post τ l0 l1 l2 l3 l4 l5 l6 l7 l8 l9 l10 l11 l12 l13 l14 l15 l16 l17 l18 l19 l20 l21 l22 l23 l24 l25 l26 l27
 
     abbrev onward : Code → Goal 𝓤 H
-    onward = on 𝓤 H A W at-mem run b o C Λ Post τ l0 l1 l2 l3 l4 l5 l6 l7 l8 l9 l10 l11 l12 l13 l14 l15 l16 l17 l18 l19 l20 l21 l22 l23 l24
+    onward = on 𝓤 H A W at-mem run b o C Λ Post τ l0 l1 l2 l3 l4 l5 l6 l7 l8 l9 l10 l11 l12 l13 l14 l15 l16 l17 l18 l19 l20 l21 l22 l23 l24 l25 l26 l27
 
     module _ (y : Sight) (r : Heard) (is : Is R.the-row r (LL.vals R.the-type R′.the-laws r)) (memoryz bufferz : List ℕ) (memoryl : length memoryz ≡ length memory) (bufferl : length bufferz ≡ length buffer) (e : Said r memoryz bufferz) where
       -- what no arm needs
       abbrev far : List (Item 𝓤)
-      far = (‵ (flft κ1 q1) ⊛ ‵ (flft κ2 q2) ⊛ ‵ (flft κ3 q3) ⊛ ‵ ftrue) ∷ ‵ (finally u8 buffer-γ bufferz) ∷ ‵ (finally u8 memory-γ memoryz) ∷ ‵ (ShrSlice (named 1) κ1 u8 .own (record { ptr = (payload-b, payload-o); name = payload-γ; now = payload }) (sliceVal (payload-b, payload-o) (length payload) ∷ [])) ∷ ‵ (fobor κ0 q0 (Body (mem T.the-row) b o γ)) ∷ ‵ (fobs γ (T.the-row .coded .code h)) ∷ ‵ (fauth γ (T.the-row .coded .code h)) ∷ ‵ (fdies (τ 24) l24) ∷ ‵ (fdies (τ 23) l23) ∷ ‵ (fdies (τ 22) l22) ∷ ‵ (fdies (τ 21) l21) ∷ ‵ (fdies (τ 20) l20) ∷ ‵ (fdies (τ 19) l19) ∷ ‵ (fdies (τ 18) l18) ∷ ‵ (fdies (τ 17) l17) ∷ ‵ (fdies (τ 16) l16) ∷ ‵ (fat fullShare (τ 15) l15 0 (sliceVal (buffer-b, buffer-o) (length buffer))) ∷ ‵ (fdies (τ 15) l15) ∷ ‵ (fat fullShare (τ 14) l14 0 (vptr buffer-b buffer-o)) ∷ ‵ (fdies (τ 14) l14) ∷ ‵ (fat fullShare (τ 13) l13 0 (sliceVal (memory-b, memory-o) (length memory))) ∷ ‵ (fdies (τ 13) l13) ∷ ‵ (fat fullShare (τ 12) l12 0 (vptr memory-b memory-o)) ∷ ‵ (fdies (τ 12) l12) ∷ ‵ (fat fullShare (τ 11) l11 0 (LL.tuple-val T.the-type T′.the-laws (T.the-type .to h))) ∷ ‵ (fdies (τ 11) l11) ∷ ‵ (fdies (τ 10) l10) ∷ ‵ (fdies (τ 9) l9) ∷ ‵ (fdies (τ 8) l8) ∷ ‵ (fdies (τ 7) l7) ∷ ‵ (fat fullShare (τ 6) l6 0 (LL.tuple-val S.the-type S′.the-laws (S.the-type .to y))) ∷ ‵ (fdies (τ 6) l6) ∷ ‵ (fat fullShare (τ 5) l5 0 (sliceVal (buffer-b, buffer-o) (length buffer))) ∷ ‵ (fdies (τ 5) l5) ∷ ‵ (fat fullShare (τ 4) l4 0 (sliceVal (memory-b, memory-o) (length memory))) ∷ ‵ (fdies (τ 4) l4) ∷ ‵ (fat fullShare (τ 3) l3 0 (sliceVal (payload-b, payload-o) (length payload))) ∷ ‵ (fdies (τ 3) l3) ∷ ‵ (fat fullShare (τ 2) l2 0 (LL.tuple-val E0.the-type E0′.the-laws (E0.the-type .to q))) ∷ ‵ (fdies (τ 2) l2) ∷ ‵ (fdies (τ 1) l1) ∷ ‵ (froom (τ 0) l0 0) ∷ ‵ (fdies (τ 0) l0) ∷ []
+      far = (‵ (flft κ1 q1) ⊛ ‵ (flft κ2 q2) ⊛ ‵ (flft κ3 q3) ⊛ ‵ ftrue) ∷ ‵ (finally u8 buffer-γ bufferz) ∷ ‵ (finally u8 memory-γ memoryz) ∷ ‵ (ShrSlice (named 1) κ1 u8 .own (record { ptr = (payload-b, payload-o); name = payload-γ; now = payload }) (sliceVal (payload-b, payload-o) (length payload) ∷ [])) ∷ ‵ (fobor κ0 q0 (Body (mem T.the-row) b o γ)) ∷ ‵ (fobs γ (T.the-row .coded .code h)) ∷ ‵ (fauth γ (T.the-row .coded .code h)) ∷ ‵ (fat fullShare (τ 2) l2 0 (LL.tuple-val E0.the-type E0′.the-laws (E0.the-type .to q))) ∷ ‵ (fat fullShare (τ 12) l12 0 (vint w64 (h .mode))) ∷ ‵ (fat fullShare (τ 6) l6 0 (LL.val X.the-type X′.the-laws (look-at 𝓤 H A W at-mem run b o h q q-is))) ∷ ‵ (fat fullShare (τ 13) l13 0 (vptr b o)) ∷ ‵ (fat fullShare (τ 7) l7 0 (LL.tuple-val S.the-type S′.the-laws (S.the-type .to y))) ∷ ‵ (fdies (τ 27) l27) ∷ ‵ (fdies (τ 26) l26) ∷ ‵ (fdies (τ 25) l25) ∷ ‵ (fdies (τ 24) l24) ∷ ‵ (fdies (τ 23) l23) ∷ ‵ (fdies (τ 22) l22) ∷ ‵ (fdies (τ 21) l21) ∷ ‵ (fdies (τ 20) l20) ∷ ‵ (fdies (τ 19) l19) ∷ ‵ (fat fullShare (τ 18) l18 0 (sliceVal (buffer-b, buffer-o) (length buffer))) ∷ ‵ (fdies (τ 18) l18) ∷ ‵ (fat fullShare (τ 17) l17 0 (vptr buffer-b buffer-o)) ∷ ‵ (fdies (τ 17) l17) ∷ ‵ (fat fullShare (τ 16) l16 0 (sliceVal (memory-b, memory-o) (length memory))) ∷ ‵ (fdies (τ 16) l16) ∷ ‵ (fat fullShare (τ 15) l15 0 (vptr memory-b memory-o)) ∷ ‵ (fdies (τ 15) l15) ∷ ‵ (fat fullShare (τ 14) l14 0 (LL.tuple-val T.the-type T′.the-laws (T.the-type .to h))) ∷ ‵ (fdies (τ 14) l14) ∷ ‵ (fdies (τ 13) l13) ∷ ‵ (fdies (τ 12) l12) ∷ ‵ (fdies (τ 11) l11) ∷ ‵ (fdies (τ 10) l10) ∷ ‵ (fdies (τ 9) l9) ∷ ‵ (fdies (τ 8) l8) ∷ ‵ (fdies (τ 7) l7) ∷ ‵ (fdies (τ 6) l6) ∷ ‵ (fat fullShare (τ 5) l5 0 (sliceVal (buffer-b, buffer-o) (length buffer))) ∷ ‵ (fdies (τ 5) l5) ∷ ‵ (fat fullShare (τ 4) l4 0 (sliceVal (memory-b, memory-o) (length memory))) ∷ ‵ (fdies (τ 4) l4) ∷ ‵ (fat fullShare (τ 3) l3 0 (sliceVal (payload-b, payload-o) (length payload))) ∷ ‵ (fdies (τ 3) l3) ∷ ‵ (fdies (τ 2) l2) ∷ ‵ (fdies (τ 1) l1) ∷ ‵ (froom (τ 0) l0 0) ∷ ‵ (fdies (τ 0) l0) ∷ []
 
       -- what is had while the borrow is open, with the value v in the state's cell
       abbrev has : Val → List (Item 𝓤)
-      has v = held 𝓤 H A W at-mem run b o C Λ Post τ l0 l1 l2 l3 l4 l5 l6 l7 l8 l9 l10 l11 l12 l13 l14 l15 l16 l17 l18 l19 l20 l21 l22 l23 l24 (answers r) v far
+      has v = held 𝓤 H A W at-mem run b o C Λ Post τ l0 l1 l2 l3 l4 l5 l6 l7 l8 l9 l10 l11 l12 l13 l14 l15 l16 l17 l18 l19 l20 l21 l22 l23 l24 l25 l26 l27 (answers r) v far
 
       -- what is had once it is closed
       abbrev shut : Monitor → List (Item 𝓤)
-      shut t = ‵ (fobs γ (T.the-row .coded .code t)) ∷ ‵ (fbor κ0 (Body (mem T.the-row) b o γ)) ∷ ‵ (flft κ0 q0) ∷ ‵ (fat fullShare (τ 7) l7 0 (vstruct (answers r))) ∷ ‵ (fat fullShare (τ 1) l1 0 (vptr b o)) ∷ ‵ (froom (τ 8) l8 0) ∷ ‵ (froom (τ 9) l9 0) ∷ ‵ (froom (τ 10) l10 0) ∷ ‵ (froom (τ 16) l16 0) ∷ ‵ (froom (τ 17) l17 0) ∷ ‵ (froom (τ 18) l18 0) ∷ ‵ (froom (τ 19) l19 0) ∷ ‵ (froom (τ 20) l20 0) ∷ ‵ (froom (τ 21) l21 0) ∷ ‵ (froom (τ 22) l22 0) ∷ ‵ (froom (τ 23) l23 0) ∷ ‵ (froom (τ 24) l24 0) ∷ (‵ (flft κ1 q1) ⊛ ‵ (flft κ2 q2) ⊛ ‵ (flft κ3 q3) ⊛ ‵ ftrue) ∷ ‵ (finally u8 buffer-γ bufferz) ∷ ‵ (finally u8 memory-γ memoryz) ∷ ‵ (ShrSlice (named 1) κ1 u8 .own (record { ptr = (payload-b, payload-o); name = payload-γ; now = payload }) (sliceVal (payload-b, payload-o) (length payload) ∷ [])) ∷ ‵ (fdies (τ 24) l24) ∷ ‵ (fdies (τ 23) l23) ∷ ‵ (fdies (τ 22) l22) ∷ ‵ (fdies (τ 21) l21) ∷ ‵ (fdies (τ 20) l20) ∷ ‵ (fdies (τ 19) l19) ∷ ‵ (fdies (τ 18) l18) ∷ ‵ (fdies (τ 17) l17) ∷ ‵ (fdies (τ 16) l16) ∷ ‵ (fat fullShare (τ 15) l15 0 (sliceVal (buffer-b, buffer-o) (length buffer))) ∷ ‵ (fdies (τ 15) l15) ∷ ‵ (fat fullShare (τ 14) l14 0 (vptr buffer-b buffer-o)) ∷ ‵ (fdies (τ 14) l14) ∷ ‵ (fat fullShare (τ 13) l13 0 (sliceVal (memory-b, memory-o) (length memory))) ∷ ‵ (fdies (τ 13) l13) ∷ ‵ (fat fullShare (τ 12) l12 0 (vptr memory-b memory-o)) ∷ ‵ (fdies (τ 12) l12) ∷ ‵ (fat fullShare (τ 11) l11 0 (LL.tuple-val T.the-type T′.the-laws (T.the-type .to h))) ∷ ‵ (fdies (τ 11) l11) ∷ ‵ (fdies (τ 10) l10) ∷ ‵ (fdies (τ 9) l9) ∷ ‵ (fdies (τ 8) l8) ∷ ‵ (fdies (τ 7) l7) ∷ ‵ (fat fullShare (τ 6) l6 0 (LL.tuple-val S.the-type S′.the-laws (S.the-type .to y))) ∷ ‵ (fdies (τ 6) l6) ∷ ‵ (fat fullShare (τ 5) l5 0 (sliceVal (buffer-b, buffer-o) (length buffer))) ∷ ‵ (fdies (τ 5) l5) ∷ ‵ (fat fullShare (τ 4) l4 0 (sliceVal (memory-b, memory-o) (length memory))) ∷ ‵ (fdies (τ 4) l4) ∷ ‵ (fat fullShare (τ 3) l3 0 (sliceVal (payload-b, payload-o) (length payload))) ∷ ‵ (fdies (τ 3) l3) ∷ ‵ (fat fullShare (τ 2) l2 0 (LL.tuple-val E0.the-type E0′.the-laws (E0.the-type .to q))) ∷ ‵ (fdies (τ 2) l2) ∷ ‵ (fdies (τ 1) l1) ∷ ‵ (froom (τ 0) l0 0) ∷ ‵ (fdies (τ 0) l0) ∷ []
+      shut t = ‵ (fobs γ (T.the-row .coded .code t)) ∷ ‵ (fbor κ0 (Body (mem T.the-row) b o γ)) ∷ ‵ (flft κ0 q0) ∷ ‵ (fat fullShare (τ 8) l8 0 (vstruct (answers r))) ∷ ‵ (fat fullShare (τ 1) l1 0 (vptr b o)) ∷ ‵ (froom (τ 9) l9 0) ∷ ‵ (froom (τ 10) l10 0) ∷ ‵ (froom (τ 11) l11 0) ∷ ‵ (froom (τ 19) l19 0) ∷ ‵ (froom (τ 20) l20 0) ∷ ‵ (froom (τ 21) l21 0) ∷ ‵ (froom (τ 22) l22 0) ∷ ‵ (froom (τ 23) l23 0) ∷ ‵ (froom (τ 24) l24 0) ∷ ‵ (froom (τ 25) l25 0) ∷ ‵ (froom (τ 26) l26 0) ∷ ‵ (froom (τ 27) l27 0) ∷ (‵ (flft κ1 q1) ⊛ ‵ (flft κ2 q2) ⊛ ‵ (flft κ3 q3) ⊛ ‵ ftrue) ∷ ‵ (finally u8 buffer-γ bufferz) ∷ ‵ (finally u8 memory-γ memoryz) ∷ ‵ (ShrSlice (named 1) κ1 u8 .own (record { ptr = (payload-b, payload-o); name = payload-γ; now = payload }) (sliceVal (payload-b, payload-o) (length payload) ∷ [])) ∷ ‵ (fat fullShare (τ 2) l2 0 (LL.tuple-val E0.the-type E0′.the-laws (E0.the-type .to q))) ∷ ‵ (fat fullShare (τ 12) l12 0 (vint w64 (h .mode))) ∷ ‵ (fat fullShare (τ 6) l6 0 (LL.val X.the-type X′.the-laws (look-at 𝓤 H A W at-mem run b o h q q-is))) ∷ ‵ (fat fullShare (τ 13) l13 0 (vptr b o)) ∷ ‵ (fat fullShare (τ 7) l7 0 (LL.tuple-val S.the-type S′.the-laws (S.the-type .to y))) ∷ ‵ (fdies (τ 27) l27) ∷ ‵ (fdies (τ 26) l26) ∷ ‵ (fdies (τ 25) l25) ∷ ‵ (fdies (τ 24) l24) ∷ ‵ (fdies (τ 23) l23) ∷ ‵ (fdies (τ 22) l22) ∷ ‵ (fdies (τ 21) l21) ∷ ‵ (fdies (τ 20) l20) ∷ ‵ (fdies (τ 19) l19) ∷ ‵ (fat fullShare (τ 18) l18 0 (sliceVal (buffer-b, buffer-o) (length buffer))) ∷ ‵ (fdies (τ 18) l18) ∷ ‵ (fat fullShare (τ 17) l17 0 (vptr buffer-b buffer-o)) ∷ ‵ (fdies (τ 17) l17) ∷ ‵ (fat fullShare (τ 16) l16 0 (sliceVal (memory-b, memory-o) (length memory))) ∷ ‵ (fdies (τ 16) l16) ∷ ‵ (fat fullShare (τ 15) l15 0 (vptr memory-b memory-o)) ∷ ‵ (fdies (τ 15) l15) ∷ ‵ (fat fullShare (τ 14) l14 0 (LL.tuple-val T.the-type T′.the-laws (T.the-type .to h))) ∷ ‵ (fdies (τ 14) l14) ∷ ‵ (fdies (τ 13) l13) ∷ ‵ (fdies (τ 12) l12) ∷ ‵ (fdies (τ 11) l11) ∷ ‵ (fdies (τ 10) l10) ∷ ‵ (fdies (τ 9) l9) ∷ ‵ (fdies (τ 8) l8) ∷ ‵ (fdies (τ 7) l7) ∷ ‵ (fdies (τ 6) l6) ∷ ‵ (fat fullShare (τ 5) l5 0 (sliceVal (buffer-b, buffer-o) (length buffer))) ∷ ‵ (fdies (τ 5) l5) ∷ ‵ (fat fullShare (τ 4) l4 0 (sliceVal (memory-b, memory-o) (length memory))) ∷ ‵ (fdies (τ 4) l4) ∷ ‵ (fat fullShare (τ 3) l3 0 (sliceVal (payload-b, payload-o) (length payload))) ∷ ‵ (fdies (τ 3) l3) ∷ ‵ (fdies (τ 2) l2) ∷ ‵ (fdies (τ 1) l1) ∷ ‵ (froom (τ 0) l0 0) ∷ ‵ (fdies (τ 0) l0) ∷ []
 
       -- the reply is read, and the locals are freed
       ends : (t : Monitor) → Left (r .reply) t memoryz bufferz → Sq W (shut t) (onward last)
       ends t left =
-          assigns ! (of-opd ! (load ! (from ! (fld ! reply-told (stop !))) (look-in ! 3 (sub ! 0 reply-told (whole !))))) (from ! (stop !)) (init ! 55 refl (LL.lawful Q.the-type Q′.the-laws 𝓤 H A W .typed (r .reply) _ (known-reply r is) .0)) $
-          returns ! (look ! 55 refl) $ forget ! 3 refl $ forget ! 4 refl $ forget ! 30 refl $ forget ! 32 refl $ forget ! 34 refl $ forget ! 36 refl $ forget ! 38 refl $ forget ! 44 refl $ forget ! 46 refl $ forget ! 48 refl $ forget ! 50 refl $ forget ! 52 refl $ forget ! 55 refl $
-          move ! (55 ∷ 56 ∷ []) $ free1 ! $ move ! (4 ∷ 54 ∷ []) $ free1 ! $ move ! (51 ∷ 52 ∷ []) $ free1 ! $ move ! (49 ∷ 50 ∷ []) $ free1 ! $ move ! (47 ∷ 48 ∷ []) $ free1 ! $ move ! (45 ∷ 46 ∷ []) $ free1 ! $ move ! (43 ∷ 44 ∷ []) $ free1 ! $ move ! (3 ∷ 42 ∷ []) $ free1 ! $ move ! (3 ∷ 40 ∷ []) $ free1 ! $ move ! (3 ∷ 38 ∷ []) $ free1 ! $ move ! (3 ∷ 36 ∷ []) $ free1 ! $ move ! (33 ∷ 34 ∷ []) $ free1 ! $ move ! (31 ∷ 32 ∷ []) $ free1 ! $ move ! (29 ∷ 30 ∷ []) $ free1 ! $ move ! (27 ∷ 28 ∷ []) $ free1 ! $ move ! (25 ∷ 26 ∷ []) $ free1 ! $ move ! (3 ∷ 24 ∷ []) $ free1 ! $ move ! (3 ∷ 22 ∷ []) $ free1 ! $ move ! (3 ∷ 20 ∷ []) $ free1 ! $ move ! (3 ∷ 18 ∷ []) $ free1 ! $ move ! (3 ∷ 16 ∷ []) $ free1 ! $ move ! (3 ∷ 14 ∷ []) $ free1 ! $ move ! (3 ∷ 12 ∷ []) $ free1 ! $ move ! (3 ∷ 10 ∷ []) $ free1 ! $ move ! (3 ∷ 8 ∷ []) $ free1 ! $ free0 ! $
+          assigns ! (of-opd ! (load ! (from ! (fld ! reply-told (stop !))) (look-in ! 3 (sub ! 0 reply-told (whole !))))) (from ! (stop !)) (init ! 61 refl (LL.lawful Q.the-type Q′.the-laws 𝓤 H A W .typed (r .reply) _ (known-reply r is) .0)) $
+          returns ! (look ! 61 refl) $ forget ! 3 refl $ forget ! 4 refl $ forget ! 21 refl $ forget ! 22 refl $ forget ! 23 refl $ forget ! 24 refl $ forget ! 25 refl $ forget ! 35 refl $ forget ! 37 refl $ forget ! 39 refl $ forget ! 41 refl $ forget ! 43 refl $ forget ! 53 refl $ forget ! 55 refl $ forget ! 57 refl $ forget ! 61 refl $
+          move ! (61 ∷ 62 ∷ []) $ free1 ! $ move ! (4 ∷ 60 ∷ []) $ free1 ! $ move ! (20 ∷ 58 ∷ []) $ free1 ! $ move ! (55 ∷ 56 ∷ []) $ free1 ! $ move ! (53 ∷ 54 ∷ []) $ free1 ! $ move ! (51 ∷ 52 ∷ []) $ free1 ! $ move ! (21 ∷ 50 ∷ []) $ free1 ! $ move ! (22 ∷ 48 ∷ []) $ free1 ! $ move ! (3 ∷ 46 ∷ []) $ free1 ! $ move ! (3 ∷ 44 ∷ []) $ free1 ! $ move ! (3 ∷ 42 ∷ []) $ free1 ! $ move ! (3 ∷ 40 ∷ []) $ free1 ! $ move ! (16 ∷ 38 ∷ []) $ free1 ! $ move ! (16 ∷ 36 ∷ []) $ free1 ! $ move ! (33 ∷ 34 ∷ []) $ free1 ! $ move ! (31 ∷ 32 ∷ []) $ free1 ! $ move ! (29 ∷ 30 ∷ []) $ free1 ! $ move ! (27 ∷ 28 ∷ []) $ free1 ! $ move ! (25 ∷ 26 ∷ []) $ free1 ! $ move ! (3 ∷ 24 ∷ []) $ free1 ! $ move ! (3 ∷ 22 ∷ []) $ free1 ! $ move ! (3 ∷ 20 ∷ []) $ free1 ! $ move ! (3 ∷ 18 ∷ []) $ free1 ! $ move ! (3 ∷ 16 ∷ []) $ free1 ! $ move ! (3 ∷ 14 ∷ []) $ free1 ! $ move ! (3 ∷ 12 ∷ []) $ free1 ! $ move ! (3 ∷ 10 ∷ []) $ free1 ! $ move ! (3 ∷ 8 ∷ []) $ free1 ! $ free0 ! $
           keep ! (0 ∷ 1 ∷ 2 ∷ 3 ∷ 4 ∷ 5 ∷ 6 ∷ []) $ by ! (exits (r .reply) t memoryz bufferz left memoryl bufferl (known-reply r is))
 
       -- the borrow is closed at the state that stands in its cell
@@ -220,9 +216,9 @@ module _ {M : Type 1} (𝓤 : URA M) (H : Heap 𝓤) (A : Atoms 𝓤) (W : Given
           let k = r .number in
           let after = ap (λ (z : Monitor). pick (r .seats) (taken z k (seatIn z r)) z) so-far in
           assigns ! (of-opd ! (load ! (from ! (fld ! seats-told (stop !))) (look-in ! 1 (sub ! 4 seats-told (whole !))))) (from ! (stop !)) (init ! 6 refl (tt, tt)) $ first ! $ branches ! (load ! (from ! (stop !)) (look ! 6 refl))
-          (λ yes. forget ! 6 refl $ find 𝓤 H A W at-mem run b o C Λ Post τ l0 l1 l2 l3 l4 l5 l6 l7 l8 l9 l10 l11 l12 l13 l14 l15 l16 l17 l18 l19 l20 l21 l22 l23 l24 (vint w64 (t .pages)) (vint w64 (t .kept)) far (r .number) (known-number r is) (e .slot-there) (r .change) (known-change r is) (e .seats-so) (owner-vals (t .owner)) sl (vint w64 (t .mode)) (running-val (t .running)) last (LL.val Q.the-type Q′.the-laws (r .reply)) (vbool (r .steers)) (vint w64 (r .mode)) (running-val (r .running)) (vbool (r .seats)) (slots-long t t-is) (getD (t .slots) k noSlot) (slot-val-at t t-is k (e .slot-there)) (slot-at t t-is k (e .slot-there)) fm known-s (λ z so z-is.
-          fill 𝓤 H A W at-mem run b o C Λ Post τ l0 l1 l2 l3 l4 l5 l6 l7 l8 l9 l10 l11 l12 l13 l14 l15 l16 l17 l18 l19 l20 l21 l22 l23 l24 (vint w64 (t .pages)) (vint w64 (t .kept)) far (r .number) (known-number r is) (e .slot-there) (owner-vals (t .owner)) sl (vint w64 (t .mode)) (running-val (t .running)) last (answers r) (slots-long t t-is) z z-is
-          (paint 𝓤 H A W at-mem run b o C Λ Post τ l0 l1 l2 l3 l4 l5 l6 l7 l8 l9 l10 l11 l12 l13 l14 l15 l16 l17 l18 l19 l20 l21 l22 l23 l24 (vint w64 (t .pages)) (vint w64 (t .kept)) far k (t .owner) (set sl k (slot-val (z .slot))) (vint w64 (t .mode)) (running-val (t .running)) last (answers r) z z-is (fits-there t same z so) fm known-n (owner-is t t-is) (λ ow new ow-is.
+          (λ yes. forget ! 6 refl $ find 𝓤 H A W at-mem run b o C Λ Post τ l0 l1 l2 l3 l4 l5 l6 l7 l8 l9 l10 l11 l12 l13 l14 l15 l16 l17 l18 l19 l20 l21 l22 l23 l24 l25 l26 l27 (vint w64 (t .pages)) (vint w64 (t .kept)) far (r .number) (known-number r is) (e .slot-there) (r .change) (known-change r is) (e .seats-so) (owner-vals (t .owner)) sl (vint w64 (t .mode)) (running-val (t .running)) last (LL.val Q.the-type Q′.the-laws (r .reply)) (vbool (r .steers)) (vint w64 (r .mode)) (running-val (r .running)) (vbool (r .seats)) (slots-long t t-is) (getD (t .slots) k noSlot) (slot-val-at t t-is k (e .slot-there)) (slot-at t t-is k (e .slot-there)) fm known-s (λ z so z-is.
+          fill 𝓤 H A W at-mem run b o C Λ Post τ l0 l1 l2 l3 l4 l5 l6 l7 l8 l9 l10 l11 l12 l13 l14 l15 l16 l17 l18 l19 l20 l21 l22 l23 l24 l25 l26 l27 (vint w64 (t .pages)) (vint w64 (t .kept)) far (r .number) (known-number r is) (e .slot-there) (owner-vals (t .owner)) sl (vint w64 (t .mode)) (running-val (t .running)) last (answers r) (slots-long t t-is) z z-is
+          (paint 𝓤 H A W at-mem run b o C Λ Post τ l0 l1 l2 l3 l4 l5 l6 l7 l8 l9 l10 l11 l12 l13 l14 l15 l16 l17 l18 l19 l20 l21 l22 l23 l24 l25 l26 l27 (vint w64 (t .pages)) (vint w64 (t .kept)) far k (t .owner) (set sl k (slot-val (z .slot))) (vint w64 (t .mode)) (running-val (t .running)) last (answers r) z z-is (fits-there t same z so) fm known-n (owner-is t t-is) (λ ow new ow-is.
           subst (λ (l : List Val). Sq W (has (vstruct (parts (vint w64 (t .pages)) (vint w64 (t .kept)) (owner-vals ow) l (vint w64 (t .mode)) (running-val (t .running))))) (onward last)) (slot-vals-set (t .slots) k (z .slot))
           (closed (to-owner (to-slots t (set (t .slots) k (z .slot))) ow) (after ∙ (pick-true (r .seats) _ _ (holds (r .seats) yes) ∙ (ap (taken t k) (sym so) ∙ ap (to-owner (to-slots t (set (t .slots) k (z .slot)))) (sym new))))
           (owners-are (to-slots t (set (t .slots) k (z .slot))) (slot-is t t-is k (z .slot) (seat-slot z z-is)) ow _ ow-is))))))
@@ -231,62 +227,51 @@ module _ {M : Type 1} (𝓤 : URA M) (H : Heap 𝓤) (A : Atoms 𝓤) (W : Given
       turns : Is T.the-row h (vals h) → FmC 𝓤 H (W .laws) C → Triple 𝓤 (C #sg) (B 𝓤 H A at-mem run) → Triple 𝓤 (C #n) (N 𝓤 H A at-mem run) → Sq W (has (LL.val T.the-type T′.the-laws h)) (onward (turn 1 steers second))
       turns was fm known-s known-n =
           assigns ! (of-opd ! (load ! (from ! (fld ! steers-told (stop !))) (look-in ! 1 (sub ! 1 steers-told (whole !))))) (from ! (stop !)) (init ! 6 refl (tt, tt)) $ first ! $ branches ! (load ! (from ! (stop !)) (look ! 6 refl))
-          (λ yes. forget ! 6 refl $ steer 𝓤 H A W at-mem run b o C Λ Post τ l0 l1 l2 l3 l4 l5 l6 l7 l8 l9 l10 l11 l12 l13 l14 l15 l16 l17 l18 l19 l20 l21 l22 l23 l24 (vint w64 (h .pages)) (vint w64 (h .kept)) far (owner-vals (h .owner)) (slot-vals (h .slots)) (vint w64 (h .mode)) (running-val (h .running)) second (LL.val Q.the-type Q′.the-laws (r .reply)) (vbool (r .steers)) (vint w64 (r .mode)) (running-val (r .running)) (vbool (r .seats)) (vint w64 (r .number)) (LL.val D.the-type D′.the-laws (r .change)) (tt, record { fits = known-mode r is }) (LL.lawful P.the-type P′.the-laws 𝓤 H A W .typed (r .running) _ (known-running r is) .0)
+          (λ yes. forget ! 6 refl $ steer 𝓤 H A W at-mem run b o C Λ Post τ l0 l1 l2 l3 l4 l5 l6 l7 l8 l9 l10 l11 l12 l13 l14 l15 l16 l17 l18 l19 l20 l21 l22 l23 l24 l25 l26 l27 (vint w64 (h .pages)) (vint w64 (h .kept)) far (owner-vals (h .owner)) (slot-vals (h .slots)) (vint w64 (h .mode)) (running-val (h .running)) second (LL.val Q.the-type Q′.the-laws (r .reply)) (vbool (r .steers)) (vint w64 (r .mode)) (running-val (r .running)) (vbool (r .seats)) (vint w64 (r .number)) (LL.val D.the-type D′.the-laws (r .change)) (tt, record { fits = known-mode r is }) (LL.lawful P.the-type P′.the-laws 𝓤 H A W .typed (r .running) _ (known-running r is) .0)
           (seating-in (to-mode h (r .mode) (r .running)) (pick-true (r .steers) _ _ (holds (r .steers) yes)) refl (mode-is h was (r .mode) (r .running) (known-mode r is) (known-running r is)) fm known-s known-n))
           (λ no. skips ! $ exec ! C Λ Ev second (atRet Ev Post) $ forget ! 6 refl $ seating-in h (pick-false (r .steers) _ _ (fails (r .steers) no)) refl was fm known-s known-n)
 
-  module _ (C : Calls 𝓤 H) (Λ : Loops 𝓤 H) (fm : FmC 𝓤 H (W .laws) C) (known-k : Triple 𝓤 (C #k) (K 𝓤 H A at-mem run)) (known : Triple 𝓤 (C #g) (G 𝓤 H A at-mem run)) (known-s : Triple 𝓤 (C #sg) (B 𝓤 H A at-mem run)) (known-n : Triple 𝓤 (C #n) (N 𝓤 H A at-mem run)) where
+  module _ (C : Calls 𝓤 H) (Λ : Loops 𝓤 H) (fm : FmC 𝓤 H (W .laws) C) (known-k : Triple 𝓤 (C #k) (K 𝓤 H A at-mem run)) (known-v : Triple 𝓤 (C #v) (Y 𝓤 H A at-mem run)) (known : Triple 𝓤 (C #g) (G 𝓤 H A at-mem run)) (known-s : Triple 𝓤 (C #sg) (B 𝓤 H A at-mem run)) (known-n : Triple 𝓤 (C #n) (N 𝓤 H A at-mem run)) where
     walk : ent 𝓤 (onEntry 𝓤 H A f.signature (κ0, (κ1, (κ2, (κ3, tt)))) (q0, (q1, (q2, (q3, tt)))) x at) (WpFn 𝓤 H C Λ code.function (vptr b o ∷ LL.tuple-val E0.the-type E0′.the-laws (E0.the-type .to q) ∷ sliceVal (payload-b, payload-o) (length payload) ∷ sliceVal (memory-b, memory-o) (length memory) ∷ sliceVal (buffer-b, buffer-o) (length buffer) ∷ []) Post)
     walk =
         qed W ((‵ (flft κ0 q0) ⊛ ‵ (flft κ1 q1) ⊛ ‵ (flft κ2 q2) ⊛ ‵ (flft κ3 q3) ⊛ ‵ ftrue) ∷ ‵ (owns (MutRef (named 0) κ0 T.the-row ∷ E0.the-row ∷ ShrSlice (named 1) κ1 u8 ∷ MutSlice (named 2) κ2 u8 ∷ MutSlice (named 3) κ3 u8 ∷ []) x at) ∷ []) ∵ enter ! C Λ code.function (vptr b o ∷ LL.tuple-val E0.the-type E0′.the-laws (E0.the-type .to q) ∷ sliceVal (payload-b, payload-o) (length payload) ∷ sliceVal (memory-b, memory-o) (length memory) ∷ sliceVal (buffer-b, buffer-o) (length buffer) ∷ []) _ $
-        alloc1 ! (λ l0. alloc1 ! (λ l1. alloc1 ! (λ l2. alloc1 ! (λ l3. alloc1 ! (λ l4. alloc1 ! (λ l5. alloc1 ! (λ l6. alloc1 ! (λ l7. alloc1 ! (λ l8. alloc1 ! (λ l9. alloc1 ! (λ l10. alloc1 ! (λ l11. alloc1 ! (λ l12. alloc1 ! (λ l13. alloc1 ! (λ l14. alloc1 ! (λ l15. alloc1 ! (λ l16. alloc1 ! (λ l17. alloc1 ! (λ l18. alloc1 ! (λ l19. alloc1 ! (λ l20. alloc1 ! (λ l21. alloc1 ! (λ l22. alloc1 ! (λ l23. alloc1 ! (λ l24. alloc0 ! $ params1 ! $
-        pass1 ! (init ! 46 refl (tt, tt)) $ pass1 ! (init ! 44 refl (LL.lawful E0.the-type E0′.the-laws 𝓤 H A W .typed q _ q-is .0)) $ pass1 ! (init ! 42 refl (tt, (tt, (record { fits = payload-room .0 }, tt)))) $ pass1 ! (init ! 40 refl (tt, (tt, (record { fits = memory-room .0 }, tt)))) $ pass1 ! (init ! 38 refl (tt, (tt, (record { fits = buffer-room .0 }, tt)))) $ pass0 ! $
+        alloc1 ! (λ l0. alloc1 ! (λ l1. alloc1 ! (λ l2. alloc1 ! (λ l3. alloc1 ! (λ l4. alloc1 ! (λ l5. alloc1 ! (λ l6. alloc1 ! (λ l7. alloc1 ! (λ l8. alloc1 ! (λ l9. alloc1 ! (λ l10. alloc1 ! (λ l11. alloc1 ! (λ l12. alloc1 ! (λ l13. alloc1 ! (λ l14. alloc1 ! (λ l15. alloc1 ! (λ l16. alloc1 ! (λ l17. alloc1 ! (λ l18. alloc1 ! (λ l19. alloc1 ! (λ l20. alloc1 ! (λ l21. alloc1 ! (λ l22. alloc1 ! (λ l23. alloc1 ! (λ l24. alloc1 ! (λ l25. alloc1 ! (λ l26. alloc1 ! (λ l27. alloc0 ! $ params1 ! $
+        pass1 ! (init ! 52 refl (tt, tt)) $ pass1 ! (init ! 50 refl (LL.lawful E0.the-type E0′.the-laws 𝓤 H A W .typed q _ q-is .0)) $ pass1 ! (init ! 48 refl (tt, (tt, (record { fits = payload-room .0 }, tt)))) $ pass1 ! (init ! 46 refl (tt, (tt, (record { fits = memory-room .0 }, tt)))) $ pass1 ! (init ! 44 refl (tt, (tt, (record { fits = buffer-room .0 }, tt)))) $ pass0 ! $
         -- the borrow is opened
-        move ! (51 ∷ []) $ fsplit ! $ fsplit3 ! $ drop ! $ move ! (53 ∷ []) $ split ! $ move ! (2 ∷ 3 ∷ 0 ∷ []) $
+        move ! (57 ∷ []) $ fsplit ! $ fsplit3 ! $ drop ! $ move ! (59 ∷ []) $ split ! $ move ! (2 ∷ 3 ∷ 0 ∷ []) $
         opens ! tt T.the-row {h = h} b o (λ vs. spelt ! T.the-row (Is T.the-row) (shows 𝓤 H A T.the-row) vals (LL.tells T.the-type T′.the-laws) fullShare h vs b o $
         move ! (1 ∷ []) $ peeks ! T.the-row (Is T.the-row) (shows 𝓤 H A T.the-row) h (vals h) (λ was. drop ! $
-        -- [the state's cell; the open borrow; obs; auth; the slices' tokens; what the other parameters own; _24 at 6; …; room for _0 at 54; …]
-        assigns ! (of-opd ! (load ! (from ! (hop ! (look ! 52 refl) (stop !))) (look-raw ! 0 refl))) (from ! (stop !)) (init ! 32 refl (LL.lawful T.the-type T′.the-laws 𝓤 H A W .typed h (vals h) was .0)) $
-        -- the call of `looked`
-        nothing ! $ owned ! E0.the-row (Is E0.the-row) ((LL.makes E0.the-type E0′.the-plain) 𝓤 H A) q _ q-is $ fjoin ! $ owned ! T.the-row (Is T.the-row) ((LL.makes T.the-type T′.the-plain) 𝓤 H A) h _ was $ fjoin ! $ nothing ! $ use2 W (raw (K 𝓤 H A at-mem run .pre to-k)) goes-k $
-        calls-at ! fm (K 𝓤 H A at-mem run) known-k to-k (and-then ! (load ! (from ! (stop !)) (look ! 33 refl)) (and-then ! (load ! (from ! (stop !)) (look ! 51 refl)) (no-more !))) (λ u.
-        use1 W (later (some (λ (y : Sight). (‵ ftrue ⊛ ‵ (S.the-row .own y (u ∷ []))) ⊛ raw (ensured 𝓤 H A k.ended (k.clauses 𝓤 H A at-mem run) tt (h, (q, tt)) tt y)))) (id⊢ 𝓤 _) $ await ! tt $ choose ! (λ y.
-        split ! $ move ! (1 ∷ []) $ use1 W (some (λ (ys : (Unit {0} × (Unit {0} × Unit {0}))). ‵ (lasts k.ended tt (h, (q, tt)) ys) ⊛ raw (fact 𝓤 (y ≡ hostLooked h q)))) (id⊢ 𝓤 _) $ choose ! (λ ys.
-        split ! $ drop ! $ heard ! (y ≡ hostLooked h q) (λ seen. split ! $ drop ! $ peeks ! S.the-row (Is S.the-row) (shows 𝓤 H A S.the-row) y (u ∷ []) (λ y-as. drop ! $
-        land ! (from ! (stop !)) (init ! 42 refl (LL.lawful S.the-type S′.the-laws 𝓤 H A W .typed y _ y-as .0)) $
-        rewrite ! 42 (λ (v : Val). ‵ (fat fullShare S′.mir l6 0 v)) (ap only (LL.tells S.the-type S′.the-laws y _ y-as)) refl $
-        -- the state is read again
-        forget ! 32 refl $
-        assigns ! (of-opd ! (load ! (from ! (hop ! (look ! 52 refl) (stop !))) (look-raw ! 0 refl))) (from ! (stop !)) (init ! 32 refl (LL.lawful T.the-type T′.the-laws 𝓤 H A W .typed h (vals h) was .0)) $
-        assigns ! (addr ! (from ! (fld ! refl (hop ! (look-in ! 46 (sub ! 0 refl (whole !))) (stop !))))) (from ! (stop !)) (init ! 30 refl (tt, tt)) $
-        assigns ! (agg ! (and-then ! (load ! (from ! (stop !)) (look ! 30 refl)) (and-then ! (load ! (from ! (fld ! refl (stop !))) (look-in ! 46 (sub ! 1 refl (whole !)))) (no-more !)))) (from ! (stop !)) (init ! 28 refl (tt, (tt, (record { fits = memory-room .0 }, tt)))) $
-        assigns ! (addr ! (from ! (fld ! refl (hop ! (look-in ! 44 (sub ! 0 refl (whole !))) (stop !))))) (from ! (stop !)) (init ! 26 refl (tt, tt)) $
-        assigns ! (agg ! (and-then ! (load ! (from ! (stop !)) (look ! 26 refl)) (and-then ! (load ! (from ! (fld ! refl (stop !))) (look-in ! 44 (sub ! 1 refl (whole !)))) (no-more !)))) (from ! (stop !)) (init ! 24 refl (tt, (tt, (record { fits = buffer-room .0 }, tt)))) $
+        move ! (0 ∷ 58 ∷ 56 ∷ 36 ∷ 48 ∷ 34 ∷ 46 ∷ []) $ seeing 𝓤 H A W at-mem run b o h q q-is C Λ Post τ l0 l1 l2 l3 l4 l5 l6 l7 l8 l9 l10 l11 l12 l13 l14 l15 l16 l17 l18 l19 l20 l21 l22 l23 l24 l25 l26 l27 _ _ was fm known-k known-v (λ y seen y-is. move ! (0 ∷ 7 ∷ 8 ∷ 9 ∷ 10 ∷ 11 ∷ []) $
+        -- [the state's cell; the open borrow; obs; auth; the slices' tokens; what the other parameters own; the locals at 6]
+        assigns ! (of-opd ! (load ! (from ! (hop ! (look ! 6 refl) (stop !))) (look-raw ! 0 refl))) (from ! (stop !)) (init ! 38 refl (LL.lawful T.the-type T′.the-laws 𝓤 H A W .typed h (vals h) was .0)) $
+        assigns ! (addr ! (from ! (fld ! refl (hop ! (look-in ! 54 (sub ! 0 refl (whole !))) (stop !))))) (from ! (stop !)) (init ! 36 refl (tt, tt)) $
+        assigns ! (agg ! (and-then ! (load ! (from ! (stop !)) (look ! 36 refl)) (and-then ! (load ! (from ! (fld ! refl (stop !))) (look-in ! 54 (sub ! 1 refl (whole !)))) (no-more !)))) (from ! (stop !)) (init ! 34 refl (tt, (tt, (record { fits = memory-room .0 }, tt)))) $
+        assigns ! (addr ! (from ! (fld ! refl (hop ! (look-in ! 52 (sub ! 0 refl (whole !))) (stop !))))) (from ! (stop !)) (init ! 32 refl (tt, tt)) $
+        assigns ! (agg ! (and-then ! (load ! (from ! (stop !)) (look ! 32 refl)) (and-then ! (load ! (from ! (fld ! refl (stop !))) (look-in ! 52 (sub ! 1 refl (whole !)))) (no-more !)))) (from ! (stop !)) (init ! 30 refl (tt, (tt, (record { fits = buffer-room .0 }, tt)))) $
         -- the call of `hear`
         move ! (5 ∷ []) $ fsplit ! $ drop ! $ fsplit ! $ use1 W (‵ (ShrSlice (named 1) κ1 u8 .own (record { ptr = (payload-b, payload-o); name = payload-γ; now = payload }) (sliceVal (payload-b, payload-o) (length payload) ∷ [])) ⊛ ‵ (ShrSlice (named 1) κ1 u8 .own (record { ptr = (payload-b, payload-o); name = payload-γ; now = payload }) (sliceVal (payload-b, payload-o) (length payload) ∷ []))) (shr-slice-copy 𝓤 H A W (named 1) κ1 u8 .twice (record { ptr = (payload-b, payload-o); name = payload-γ; now = payload }) (sliceVal (payload-b, payload-o) (length payload) ∷ [])) $ split ! $ move ! (2 ∷ []) $ fsplit ! $ move ! (1 ∷ []) $ fsplit ! $ move ! (1 ∷ []) $
-        move ! (1 ∷ 0 ∷ []) $ fjoin ! $ move ! (1 ∷ 0 ∷ []) $ fjoin ! $ move ! (1 ∷ 0 ∷ []) $ fjoin ! $ owned ! S.the-row (Is S.the-row) ((LL.makes S.the-type S′.the-plain) 𝓤 H A) y _ (spelled S.the-row sight-vals (LL.tells S.the-type S′.the-laws) y _ y-as) $ fjoin ! $ owned ! E0.the-row (Is E0.the-row) ((LL.makes E0.the-type E0′.the-plain) 𝓤 H A) q _ q-is $ fjoin ! $ owned ! T.the-row (Is T.the-row) ((LL.makes T.the-type T′.the-plain) 𝓤 H A) h _ was $ fjoin ! $ move ! (6 ∷ 0 ∷ []) $ use2 W (raw (G 𝓤 H A at-mem run .pre (to-g y))) (goes-g y seen) $
-        calls-at ! fm (G 𝓤 H A at-mem run) known (to-g y) (and-then ! (load ! (from ! (stop !)) (look ! 32 refl)) (and-then ! (load ! (from ! (stop !)) (look ! 50 refl)) (and-then ! (load ! (from ! (stop !)) (look ! 42 refl)) (and-then ! (load ! (from ! (stop !)) (look ! 48 refl)) (and-then ! (load ! (from ! (stop !)) (look ! 28 refl)) (and-then ! (load ! (from ! (stop !)) (look ! 24 refl)) (no-more !))))))) (λ w.
+        move ! (1 ∷ 0 ∷ []) $ fjoin ! $ move ! (1 ∷ 0 ∷ []) $ fjoin ! $ move ! (1 ∷ 0 ∷ []) $ fjoin ! $ owned ! S.the-row (Is S.the-row) ((LL.makes S.the-type S′.the-plain) 𝓤 H A) y _ y-is $ fjoin ! $ owned ! E0.the-row (Is E0.the-row) ((LL.makes E0.the-type E0′.the-plain) 𝓤 H A) q _ q-is $ fjoin ! $ owned ! T.the-row (Is T.the-row) ((LL.makes T.the-type T′.the-plain) 𝓤 H A) h _ was $ fjoin ! $ move ! (6 ∷ 0 ∷ []) $ use2 W (raw (G 𝓤 H A at-mem run .pre (to-g y))) (goes-g y seen) $
+        calls-at ! fm (G 𝓤 H A at-mem run) known (to-g y) (and-then ! (load ! (from ! (stop !)) (look ! 38 refl)) (and-then ! (load ! (from ! (stop !)) (look ! 7 refl)) (and-then ! (load ! (from ! (stop !)) (look ! 11 refl)) (and-then ! (load ! (from ! (stop !)) (look ! 56 refl)) (and-then ! (load ! (from ! (stop !)) (look ! 34 refl)) (and-then ! (load ! (from ! (stop !)) (look ! 30 refl)) (no-more !))))))) (λ w.
         use1 W (later (some (λ (r : Heard). ((‵ (flft κ1 q1) ⊛ ‵ (flft κ2 q2) ⊛ ‵ (flft κ3 q3) ⊛ ‵ ftrue) ⊛ ‵ (R.the-row .own r (w ∷ []))) ⊛ raw (ensured 𝓤 H A g.ended (g.clauses 𝓤 H A at-mem run) (κ1, (κ2, (κ3, tt))) (args y) tt r)))) (id⊢ 𝓤 _) $ await ! tt $ choose ! (λ r.
         split ! $ move ! (1 ∷ []) $ use1 W (some (λ (zs : (Unit {0} × (Unit {0} × (Unit {0} × (Unit {0} × (List ℕ × (List ℕ × Unit {0}))))))). ‵ (lasts g.ended (κ1, (κ2, (κ3, tt))) (args y) zs) ⊛ raw (fact 𝓤 (Said r (zs .1 .1 .1 .1 .0) (zs .1 .1 .1 .1 .1 .0))))) (id⊢ 𝓤 _) $ choose ! (λ zs.
         split ! $ move ! (1 ∷ []) $ heard ! (Said r (zs .1 .1 .1 .1 .0) (zs .1 .1 .1 .1 .1 .0)) (λ e. fsplit ! $ drop ! $ fsplit ! $ drop ! $ fsplit ! $ drop ! $ fsplit ! $ drop ! $ fsplit ! $ fsplit ! $ move ! (1 ∷ []) $ feqL ! (λ memoryl. move ! (1 ∷ []) $ fsplit ! $ fsplit ! $ move ! (1 ∷ []) $ feqL ! (λ bufferl. move ! (1 ∷ []) $ drop ! $
         move ! (2 ∷ []) $ split ! $ move ! (1 ∷ []) $ peeks ! R.the-row (Is R.the-row) (shows 𝓤 H A R.the-row) r (w ∷ []) (λ is. drop ! $
-        -- [the slices' tokens; the last lists; the `&` slices; the state's cell at 4; the open borrow; obs; auth; _24 at 8; …; room for _0 at 56; …]
-        land ! (from ! (stop !)) (init ! 42 refl (LL.lawful R.the-type R′.the-laws 𝓤 H A W .typed r _ is .0)) $
-        rewrite ! 42 (λ (u : Val). ‵ (fat fullShare R′.mir l7 0 u)) (ap only (LL.tells R.the-type R′.the-laws r _ is)) refl $
-        move ! (4 ∷ 42 ∷ 54 ∷ 40 ∷ 38 ∷ 36 ∷ 24 ∷ 22 ∷ 20 ∷ 18 ∷ 16 ∷ 14 ∷ 12 ∷ 10 ∷ 8 ∷ []) $
-        turns C Λ l0 l1 l2 l3 l4 l5 l6 l7 l8 l9 l10 l11 l12 l13 l14 l15 l16 l17 l18 l19 l20 l21 l22 l23 l24 y r (spelled R.the-row (LL.vals R.the-type R′.the-laws) (LL.tells R.the-type R′.the-laws) r _ is) (zs .1 .1 .1 .1 .0) (zs .1 .1 .1 .1 .1 .0) memoryl bufferl e was fm known-s known-n)))))))))))))))))))))))))))))))))))))))
+        land ! (from ! (stop !)) (init ! 50 refl (LL.lawful R.the-type R′.the-laws 𝓤 H A W .typed r _ is .0)) $
+        rewrite ! 50 (λ (u : Val). ‵ (fat fullShare R′.mir l8 0 u)) (ap only (LL.tells R.the-type R′.the-laws r _ is)) refl $
+        move ! (4 ∷ 50 ∷ 8 ∷ 48 ∷ 46 ∷ 44 ∷ 30 ∷ 28 ∷ 26 ∷ 24 ∷ 22 ∷ 20 ∷ 18 ∷ 16 ∷ 14 ∷ []) $
+        turns C Λ l0 l1 l2 l3 l4 l5 l6 l7 l8 l9 l10 l11 l12 l13 l14 l15 l16 l17 l18 l19 l20 l21 l22 l23 l24 l25 l26 l27 y r (spelled R.the-row (LL.vals R.the-type R′.the-laws) (LL.tells R.the-type R′.the-laws) r _ is) (zs .1 .1 .1 .1 .0) (zs .1 .1 .1 .1 .1 .0) memoryl bufferl e was fm known-s known-n))))))))))))))))))))))))))))))))))))))
 
 module _ {M : Type 1} (𝓤 : URA M) (H : Heap 𝓤) (A : Atoms 𝓤) (W : Given 𝓤 H A) (at-mem : Memory → SProp 𝓤) (run : Routine → Fun 𝓤) where
-  walks : (C : Calls 𝓤 H) (Λ : Loops 𝓤 H) → FmC 𝓤 H (W .laws) C → Triple 𝓤 (C #k) (K 𝓤 H A at-mem run) → Triple 𝓤 (C #g) (G 𝓤 H A at-mem run) → Triple 𝓤 (C #sg) (B 𝓤 H A at-mem run) → Triple 𝓤 (C #n) (N 𝓤 H A at-mem run) → Walks 𝓤 H A f.ended stayed (WpFn 𝓤 H C Λ code.function) (f.clauses 𝓤 H A at-mem run)
-  walks C Λ fm known-k known known-s known-n = walked 𝓤 H A f.ended stayed (f.clauses 𝓤 H A at-mem run) (WpFn 𝓤 H C Λ code.function) (λ κs. (ptr-vals, (LL.vals E0.the-type E0′.the-laws, (slice-vals, (slice-vals, (slice-vals, tt)))))) (λ κs. (mut-tells (named 0) (κs .0) T.the-row, (LL.tells E0.the-type E0′.the-laws, (shr-slice-tells (named 1) (κs .1 .0) u8, (mut-slice-tells (named 2) (κs .1 .1 .0) u8, (mut-slice-tells (named 3) (κs .1 .1 .1 .0) u8, tt))))))
+  walks : (C : Calls 𝓤 H) (Λ : Loops 𝓤 H) → FmC 𝓤 H (W .laws) C → Triple 𝓤 (C #k) (K 𝓤 H A at-mem run) → Triple 𝓤 (C #v) (Y 𝓤 H A at-mem run) → Triple 𝓤 (C #g) (G 𝓤 H A at-mem run) → Triple 𝓤 (C #sg) (B 𝓤 H A at-mem run) → Triple 𝓤 (C #n) (N 𝓤 H A at-mem run) → Walks 𝓤 H A f.ended stayed (WpFn 𝓤 H C Λ code.function) (f.clauses 𝓤 H A at-mem run)
+  walks C Λ fm known-k known-v known known-s known-n = walked 𝓤 H A f.ended stayed (f.clauses 𝓤 H A at-mem run) (WpFn 𝓤 H C Λ code.function) (λ κs. (ptr-vals, (LL.vals E0.the-type E0′.the-laws, (slice-vals, (slice-vals, (slice-vals, tt)))))) (λ κs. (mut-tells (named 0) (κs .0) T.the-row, (LL.tells E0.the-type E0′.the-laws, (shr-slice-tells (named 1) (κs .1 .0) u8, (mut-slice-tells (named 2) (κs .1 .1 .0) u8, (mut-slice-tells (named 3) (κs .1 .1 .1 .0) u8, tt))))))
       (λ κs qs bounds a _ are. via 𝓤 _ (fst∗ 𝓤 _ (emp 𝓤)) (walk 𝓤 H A W at-mem run (κs .0) (κs .1 .0) (κs .1 .1 .0) (κs .1 .1 .1 .0) bounds (qs .0) (qs .1 .0) (qs .1 .1 .0) (qs .1 .1 .1 .0) (a .0 .ptr .0) (a .0 .ptr .1) (a .0 .name) (a .0 .now)
-      (a .1 .0) (are .1 .0) (a .1 .1 .0 .ptr .0) (a .1 .1 .0 .ptr .1) (a .1 .1 .0 .name) (a .1 .1 .0 .now) (are .1 .1 .0 .0 .1) (a .1 .1 .1 .0 .ptr .0) (a .1 .1 .1 .0 .ptr .1) (a .1 .1 .1 .0 .name) (a .1 .1 .1 .0 .now) (are .1 .1 .1 .0 .0 .1) (a .1 .1 .1 .1 .0 .ptr .0) (a .1 .1 .1 .1 .0 .ptr .1) (a .1 .1 .1 .1 .0 .name) (a .1 .1 .1 .1 .0 .now) (are .1 .1 .1 .1 .0 .0 .1) C Λ fm known-k known known-s known-n))
+      (a .1 .0) (are .1 .0) (a .1 .1 .0 .ptr .0) (a .1 .1 .0 .ptr .1) (a .1 .1 .0 .name) (a .1 .1 .0 .now) (are .1 .1 .0 .0 .1) (a .1 .1 .1 .0 .ptr .0) (a .1 .1 .1 .0 .ptr .1) (a .1 .1 .1 .0 .name) (a .1 .1 .1 .0 .now) (are .1 .1 .1 .0 .0 .1) (a .1 .1 .1 .1 .0 .ptr .0) (a .1 .1 .1 .1 .0 .ptr .1) (a .1 .1 .1 .1 .0 .name) (a .1 .1 .1 .1 .0 .now) (are .1 .1 .1 .1 .0 .0 .1) C Λ fm known-k known-v known known-s known-n))
 
   goes : AllGo 𝓤 H A W 4 (f.signature .params) (f.ended .kept) stayed
   goes = (goes-ref 𝓤 H A W 4 0 tt (plain (λ _. T.the-row)), (goes-none 𝓤 H A W 4 (λ _. E0.the-row) yes (λ κs x f. refl), (goes-none-slice 𝓤 H A W 4 (1 ∷ []) tt (plain (λ _. u8)) yes, (goes-gave-slice 𝓤 H A W 4 2 tt (plain (λ _. u8)), (goes-gave-slice 𝓤 H A W 4 3 tt (plain (λ _. u8)), tt)))))
 
-  meets : (𝓣 : Tables 𝓤 H) → Triple 𝓤 (𝓣 .C #k) (K 𝓤 H A at-mem run) → Triple 𝓤 (𝓣 .C #g) (G 𝓤 H A at-mem run) → Triple 𝓤 (𝓣 .C #sg) (B 𝓤 H A at-mem run) → Triple 𝓤 (𝓣 .C #n) (N 𝓤 H A at-mem run) → Meets 𝓤 H A f.signature (WpFn 𝓤 H (𝓣 .C) (𝓣 .Λ) code.function) (f.spec 𝓤 H A at-mem run)
-  meets 𝓣 known-k known known-s known-n = walk-meets 𝓤 H A f.ended stayed W goes (f.clauses 𝓤 H A at-mem run) (WpFn 𝓤 H (𝓣 .C) (𝓣 .Λ) code.function) (WpFn-mono 𝓤 H (W .laws) 𝓣 code.function) (walks (𝓣 .C) (𝓣 .Λ) (fmOf 𝓤 H (W .laws) 𝓣) known-k known known-s known-n)
+  meets : (𝓣 : Tables 𝓤 H) → Triple 𝓤 (𝓣 .C #k) (K 𝓤 H A at-mem run) → Triple 𝓤 (𝓣 .C #v) (Y 𝓤 H A at-mem run) → Triple 𝓤 (𝓣 .C #g) (G 𝓤 H A at-mem run) → Triple 𝓤 (𝓣 .C #sg) (B 𝓤 H A at-mem run) → Triple 𝓤 (𝓣 .C #n) (N 𝓤 H A at-mem run) → Meets 𝓤 H A f.signature (WpFn 𝓤 H (𝓣 .C) (𝓣 .Λ) code.function) (f.spec 𝓤 H A at-mem run)
+  meets 𝓣 known-k known-v known known-s known-n = walk-meets 𝓤 H A f.ended stayed W goes (f.clauses 𝓤 H A at-mem run) (WpFn 𝓤 H (𝓣 .C) (𝓣 .Λ) code.function) (WpFn-mono 𝓤 H (W .laws) 𝓣 code.function) (walks (𝓣 .C) (𝓣 .Λ) (fmOf 𝓤 H (W .laws) 𝓣) known-k known-v known known-s known-n)
 
 pub monitor-event-spec : {M : Type 1} → stated.statement M
 unfolding code.routine tablesOf
@@ -294,7 +279,8 @@ monitor-event-spec 𝓤 H 𝓜 𝓖 𝓡 =
     entered 𝓤 H (tripleOf 𝓤 H (𝓖 .A) f.signature (f.spec 𝓤 H (𝓖 .A) (𝓜 .mem) (𝓡 .run)))
     (tables 𝓤 H 𝓜 𝓡 code.env .C) (tables 𝓤 H 𝓜 𝓡 code.env .Λ) #f code.function (code.unfolded 𝓤 H 𝓜 𝓡)
     (meets 𝓤 H (𝓖 .A) (givenOf 𝓤 H 𝓜 𝓖) (𝓜 .mem) (𝓡 .run) (tablesOf 𝓤 H 𝓜 (tables 𝓤 H 𝓜 𝓡 code.env))
-    (cited 𝓤 H (K 𝓤 H (𝓖 .A) (𝓜 .mem) (𝓡 .run)) 𝓜 𝓡 code.env #k k-def.routine code.calls-host·looked (k-thm.met 𝓤 H 𝓜 𝓖 𝓡))
+    (cited 𝓤 H (K 𝓤 H (𝓖 .A) (𝓜 .mem) (𝓡 .run)) 𝓜 𝓡 code.env #k k-def.routine code.calls-host·looking (k-thm.met 𝓤 H 𝓜 𝓖 𝓡))
+    (cited 𝓤 H (Y 𝓤 H (𝓖 .A) (𝓜 .mem) (𝓡 .run)) 𝓜 𝓡 code.env #v v-def.routine code.calls-host·sees (v-thm.met 𝓤 H 𝓜 𝓖 𝓡))
     (cited 𝓤 H (G 𝓤 H (𝓖 .A) (𝓜 .mem) (𝓡 .run)) 𝓜 𝓡 code.env #g g-def.routine code.calls-host·hear (g-thm.met 𝓤 H 𝓜 𝓖 𝓡))
     (cited 𝓤 H (B 𝓤 H (𝓖 .A) (𝓜 .mem) (𝓡 .run)) 𝓜 𝓡 code.env #sg sg-def.routine code.calls-change·seating (sg-thm.met 𝓤 H 𝓜 𝓖 𝓡))
     (cited 𝓤 H (N 𝓤 H (𝓖 .A) (𝓜 .mem) (𝓡 .run)) 𝓜 𝓡 code.env #n n-def.routine code.calls-painting·paint-runs (n-thm.met 𝓤 H 𝓜 𝓖 𝓡)))

@@ -5,6 +5,7 @@ use Rattle.unique.proofs.board_unique.Tie as tie
 
 returns : tie.Need-returns
 returns c = record {
+  twin-mode-of-one = λ κs a z z′ w w′. result;
   twin-number-of-one = λ κs a z z′ w w′. result;
   twin-opened-one = λ κs a z z′ w w′. result;
   twin-shut-one = λ κs a z z′ w w′. result;

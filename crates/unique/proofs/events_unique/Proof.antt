@@ -44,6 +44,7 @@ returns c = record {
   enroll-measured-one = λ κs a z z′ w w′. digest;
   enroll-register-one = λ κs a z z′ w w′ p q. stepped (p .steps) (q .steps) .0;
   extend-extend-one = λ κs a z z′ w w′ p q. stepped (p .steps) (q .steps) .0;
+  decide-looking-one = λ κs a z z′ w w′. result;
   decide-looked-one = λ κs a z z′ w w′. result;
   decide-decided-one = λ κs a z z′ w w′ p q. both (p .out) (q .out);
   monitor-step-one = λ κs a z z′ w w′ p q. let o = both p q in ((λ i. record { answer = o i .answer; state = o i .state }), λ i. (tt, (tt, (tt, (o i .memory, (o i .buffer, tt))))));

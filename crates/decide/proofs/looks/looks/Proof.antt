@@ -1,5 +1,5 @@
 use Rattle.events.specs.declared.Event.{Event}
-use Rattle.decide.specs.declared.looks.Look.{Look}
+use Rattle.decide.specs.declared.Look.{Look}
 use Rattle.decide.specs.Looks.{looks}
 use Prim.Native.Nat.{ℕ}
 use mathlib.Core.Path.{_≡_, sym, ap, _∙_}
