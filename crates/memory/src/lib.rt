@@ -14,7 +14,7 @@ fn zero_bytes(memory: &mut [u8], at: usize, n: usize)
     requires { ⌜ at + n ≤ length (now memory) ⌝ }
     ensures { λ _. ⌜ now (memory .exit) ≡ sets (now (memory .entry)) at (zeros n) ⌝ }
 {
-    let mut i = 0;
+    let mut i: usize = 0;
     while i < n {
         memory[at + i] = 0;
         i += 1;
