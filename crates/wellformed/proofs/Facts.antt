@@ -1,5 +1,5 @@
 -- What well-formedness says, as facts, and how facts establish it. What lies above cites these and not the definition's text.
-use Prim.Native.Nat.{ℕ, _+_, _-_, _≤_, _<_}
+use Prim.Native.Nat.{ℕ, _+_, _≤_, _<_}
 use native.Mathlib.Omega.{arith}
 use mathlib.Core.Path.{_≡_, refl, sym, subst, _∙_}
 use mathlib.Core.Bool.{true, false, _&&_, false≢true}
@@ -76,13 +76,16 @@ page-under f top p u h =
     let b = ltb-true p (endOf x) (and-r (leb (x .first) p) _ (w .is)) in
     omega arith
 
--- a zero card's fields name no page
+-- a zero card has no runs, so its fields name no page
+zero-runs : (x : Card) → cardZero x ≡ true → x .fields .r ≡ 0
+zero-runs x h = let f = x .fields in eqb-true (f .r) 0 (and-l (eqb (f .r) 0) _ (and-l (eqb (f .r) 0 && eqb (f .e) 0) _ (and-r (eqb (x .mark) 0) _ h)))
+
+pub no-runs : (x : Card) (top : ℕ) → cardRight x top ≡ true → x .registered ≡ false → x .fields .r ≡ 0
+no-runs x top h e = zero-runs x (card-free x top h e)
+
 pub zero-holds : (x : Card) (p : ℕ) → cardZero x ≡ true → hasPage (x .fields) p ≡ false
 unfolding hasPage any-below
-zero-holds x p h =
-    let f = x .fields in
-    let z = eqb-true (f .r) 0 (and-l (eqb (f .r) 0) _ (and-l (eqb (f .r) 0 && eqb (f .e) 0) _ (and-r (eqb (x .mark) 0) _ h))) in
-    rw z
+zero-holds x p h = rw (zero-runs x h)
 
 pub card-holds-under : (x : Card) (top p : ℕ) → cardRight x top ≡ true → hasPage (x .fields) p ≡ true → p < top
 card-holds-under x top p h t =

@@ -1,5 +1,5 @@
 -- "A state is well formed when": document 01's paragraph, clause by clause, in its order.
-use Prim.Native.Nat.{ℕ, _+_, _-_}
+use Prim.Native.Nat.{ℕ, _+_}
 use mathlib.Core.Bool.{Bool, _&&_, _||_}
 use mathlib.Core.List.{List, []}
 use lib.ListN.{getD}

@@ -1,25 +1,15 @@
 // Whether a state is well formed (document 01, "Machine and numbers"). Every event asks it, so it is written to be fast: one loop reads each slot once
 // and paints what it says into a table, and the table is compared with the owner table. The state stays in one function, since a callee would copy it.
+mod held; // what a slot holds
+mod running; // the mode and the running record
+
 ghost use mathlib.Core.Path.{_≡_};
-ghost use mathlib.Core.Bool.{_&&_};
-ghost use mathlib.Core.List.{[]};
-ghost use Prim.Native.Nat.{_≤_};
 ghost use lib.ListN.{getD};
-ghost use lib.Dec.{eqb};
-ghost use Rattle.lists.specs.Below.{all-below, any-below};
-ghost use Rattle.geometry.specs.Geometry.{mostPages, digestSize};
-ghost use Rattle.fields.specs.Fields.{fieldsOf, entryPlaces};
-ghost use Rattle.fields.specs.Rules.{keepsRules};
-ghost use Rattle.fields.specs.Pages.{pagesUnder};
-ghost use Rattle.wellformed.specs.WellFormed.{sizesRight, fieldsZero, byteZeroAt, pcrsZero, runningZero, outputAt, stateRight, wellFormed};
-ghost use Rattle.wellformed.specs.Tests.{slotRight, outTest, runningTest, modeTest};
+ghost use Rattle.wellformed.specs.WellFormed.{sizesRight, stateRight, wellFormed};
 ghost use Rattle.wellformed.specs.Seen.{nothingSeen, seenOf};
 ghost use Rattle.wellformed.specs.Steps.{begunOf, begunTable, triedOf, triedTable, wholeOf, sightOf};
-use fields::Entry;
 use fields::Fields;
-use fields::Run;
 use geometry::Geometry;
-use sha1::Digest;
 use state::Card;
 use state::Mode;
 use state::Running;
@@ -33,147 +23,6 @@ pub fn sizes_right(p: usize, m: usize) -> bool
     ensures { λ r. ⌜ r ≡ sizesRight p m ⌝ }
 {
     ((Geometry::LEAST_PAGES <= p) & (p <= Geometry::MOST_PAGES)) & ((1 <= m) & (m < p))
-}
-
-// ---- free slots: every place is unused, every byte zero
-fn pcr_bits(x: Digest) -> u8
-    ensures { λ r. ⌜ eqb r 0 ≡ all-below digestSize (byteZeroAt x) ⌝ }
-{
-    let mut bits: u8 = 0;
-    let mut i: usize = 0;
-    while i < Geometry::DIGEST {
-        bits = bits | x.bytes[i];
-        i += 1;
-    }
-    bits
-}
-
-fn pcrs_bits(pcrs: [Digest; Geometry::PCRS]) -> u8
-    ensures { λ r. ⌜ eqb r 0 ≡ pcrsZero pcrs ⌝ }
-{
-    let mut bits: u8 = 0;
-    let mut i: usize = 0;
-    while i < Geometry::PCRS {
-        let x = pcrs[i];
-        bits = bits | pcr_bits(x);
-        i += 1;
-    }
-    bits
-}
-
-fn free_right(
-    mark: u64,
-    r: usize,
-    e: usize,
-    runs: [Run; Fields::RUNS],
-    entries: [Entry; Fields::ENTRIES],
-    pcrs: [Digest; Geometry::PCRS],
-) -> bool
-    ensures { λ b. ⌜ b ≡ (eqb mark 0 && fieldsZero (fieldsOf r e runs entries)) && pcrsZero pcrs ⌝ }
-{
-    let a = keeps::runs_unused(0, runs);
-    let b = keeps::entries_unused(0, entries);
-    let c = pcrs_bits(pcrs);
-    ((mark == 0) & (((r == 0) & (e == 0)) & (a & b))) & (c == 0)
-}
-
-// ---- registered slots
-// Runs rise, so that the last one ends highest.
-fn used_right(
-    r: usize,
-    e: usize,
-    runs: [Run; Fields::RUNS],
-    entries: [Entry; Fields::ENTRIES],
-    top: usize,
-) -> bool
-    ensures { λ b. ⌜ b ≡ keepsRules (fieldsOf r e runs entries) && pagesUnder (fieldsOf r e runs entries) top ⌝ }
-{
-    if !keeps::keeps(r, e, runs, entries) {
-        return false;
-    }
-    let x = runs[r - 1];
-    keeps::run_end(x) <= top
-}
-
-fn slot_right(x: Slot, top: usize) -> bool
-    ensures { λ r. ⌜ r ≡ slotRight x top ⌝ }
-{
-    let f = x.card.fields;
-    let runs = f.runs;
-    let entries = f.entries;
-    if x.card.registered {
-        return used_right(f.r, f.e, runs, entries, top);
-    }
-    let pcrs = x.pcrs;
-    free_right(x.card.mark, f.r, f.e, runs, entries, pcrs)
-}
-
-// ---- the running record
-fn running_zero(x: Running) -> bool
-    ensures { λ r. ⌜ r ≡ runningZero x ⌝ }
-{
-    (x.slot == 0) & ((x.out == 0) & (x.length == 0))
-}
-
-fn any_output(e: usize, entries: [Entry; Fields::ENTRIES], n: usize) -> bool
-    requires { ⌜ e ≤ entryPlaces ⌝ }
-    ensures { λ r. ⌜ r ≡ any-below e (outputAt (fieldsOf 0 e [] entries) n) ⌝ }
-{
-    let mut ok = false;
-    let mut i: usize = 0;
-    while i < e {
-        let x = entries[i];
-        ok = ok | (x.output as usize == n);
-        i += 1;
-    }
-    ok
-}
-
-fn out_right(owner: &[u8; Geometry::MOST_PAGES], pages: usize, a: usize, n: usize) -> bool
-    requires { ⌜ pages ≤ mostPages ⌝ }
-    ensures { λ r. ⌜ r ≡ outTest (now (owner .entry)) pages a n ⌝ }
-{
-    if n == 0 {
-        return a == 0;
-    }
-    if !Geometry::is_range(pages, a, n) {
-        return false;
-    }
-    let p = a / Geometry::PAGE;
-    (p < pages) & (owner[p] == 0)
-}
-
-fn secure_right(
-    k: usize,
-    x: Running,
-    card: Card,
-    owner: &[u8; Geometry::MOST_PAGES],
-    pages: usize,
-) -> bool
-    requires { ⌜ (pages ≤ mostPages) × (card .fields .e ≤ entryPlaces) ⌝ }
-    ensures { λ r. ⌜ r ≡ runningTest k x card (now (owner .entry)) pages ⌝ }
-{
-    let f = card.fields;
-    let entries = f.entries;
-    let some = any_output(f.e, entries, x.length);
-    let out = out_right(owner, pages, x.out, x.length);
-    ((x.slot == k) & ((k < Geometry::SLOTS) & card.registered)) & (some & out)
-}
-
-fn mode_right(
-    mode: Mode,
-    x: Running,
-    card: Card,
-    owner: &[u8; Geometry::MOST_PAGES],
-    pages: usize,
-) -> bool
-    requires { ⌜ (pages ≤ mostPages) × (card .fields .e ≤ entryPlaces) ⌝ }
-    ensures { λ r. ⌜ r ≡ modeTest mode x card (now (owner .entry)) pages ⌝ }
-{
-    match mode {
-        Mode::Legacy => running_zero(x),
-        Mode::Secure(k) => secure_right(k, x, card, owner, pages),
-    }
 }
 
 // ---- the whole
@@ -245,11 +94,14 @@ pub fn tried(
             top: w.top,
         };
     }
-    if !slot_right(x, w.top) {
+    if !held::slot_right(x, w.top) {
         return Test {
             right: false,
             top: w.top,
         };
+    }
+    if !x.card.registered {
+        return w;
     }
     let f = x.card.fields;
     let runs = f.runs;
@@ -281,7 +133,7 @@ pub fn sighted(
         return unseen();
     }
     let off = painting::differ(t, owner);
-    let right = mode_right(mode, running, card, owner, pages);
+    let right = running::mode_right(mode, running, card, owner, pages);
     if !((off == 0) & right) {
         return unseen();
     }

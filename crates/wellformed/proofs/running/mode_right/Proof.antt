@@ -3,8 +3,8 @@ use Rattle.state.specs.declared.Mode.{Mode}
 use Rattle.state.specs.declared.Mode.the-variants.{Secure}
 use Rattle.wellformed.specs.Tests.{modeTest}
 use borrow.Author.Needs.{needs}
-use Rattle.wellformed.proofs.mode_right.Statement.{statement}
-use Rattle.wellformed.proofs.mode_right.Tie as tie
+use Rattle.wellformed.proofs.running.mode_right.Statement.{statement}
+use Rattle.wellformed.proofs.running.mode_right.Tie as tie
 
 enum-told : tie.Need-enum-told
 enum-told c = search needs

@@ -5,8 +5,8 @@ use Rattle.fields.specs.Fields.{fieldsOf, runPlaces, entryPlaces}
 use Rattle.wellformed.specs.WellFormed.{runZeroAt, entryZeroAt}
 use Rattle.wellformed.proofs.Slots.{all-unused}
 use native.Mathlib.Omega.{arith}
-use Rattle.wellformed.proofs.free_right.Statement.{statement}
-use Rattle.wellformed.proofs.free_right.Tie as tie
+use Rattle.wellformed.proofs.held.free_right.Statement.{statement}
+use Rattle.wellformed.proofs.held.free_right.Tie as tie
 
 runs-unused-requires : tie.Need-runs-unused-requires
 runs-unused-requires c κs = omega arith

@@ -5,8 +5,8 @@ use Rattle.geometry.specs.Geometry.{isRange}
 use Rattle.wellformed.proofs.Runs.{range-inside}
 use native.Mathlib.Omega.{arith}
 use borrow.Author.Needs.{needs}
-use Rattle.wellformed.proofs.out_right.Statement.{statement}
-use Rattle.wellformed.proofs.out_right.Tie as tie
+use Rattle.wellformed.proofs.running.out_right.Statement.{statement}
+use Rattle.wellformed.proofs.running.out_right.Tie as tie
 
 returns : tie.Need-returns
 returns c = rw (eq-eqb _ _ (c .if1 .taken))

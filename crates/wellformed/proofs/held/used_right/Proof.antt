@@ -1,4 +1,3 @@
-use Prim.Native.Nat.{_-_}
 use mathlib.Core.Path.{_≡_, sym, _∙_}
 use mathlib.Core.Bool.{true, false}
 use borrow.Author.Tests.{not-true, not-false}
@@ -8,8 +7,8 @@ use Rattle.fields.proofs.Facts.{Counts, kept}
 use Rattle.wellformed.proofs.Slots.{under-last}
 use native.Mathlib.Omega.{arith}
 use borrow.Author.Needs.{needs}
-use Rattle.wellformed.proofs.used_right.Statement.{statement}
-use Rattle.wellformed.proofs.used_right.Tie as tie
+use Rattle.wellformed.proofs.held.used_right.Statement.{statement}
+use Rattle.wellformed.proofs.held.used_right.Tie as tie
 
 keeps-requires : tie.Need-keeps-requires
 keeps-requires c κs = search needs

@@ -7,8 +7,8 @@ use Rattle.lists.specs.Below.{all-below}
 use Rattle.lists.proofs.All.{all-end, bits-none, bits-step}
 use Rattle.wellformed.specs.WellFormed.{byteZeroAt}
 use native.Mathlib.Omega.{arith}
-use Rattle.wellformed.proofs.pcr_bits.Statement.{statement}
-use Rattle.wellformed.proofs.pcr_bits.Tie as tie
+use Rattle.wellformed.proofs.held.pcr_bits.Statement.{statement}
+use Rattle.wellformed.proofs.held.pcr_bits.Tie as tie
 
 abbrev Inv-loop : tie.InvT-loop
 Inv-loop x bits₀ i₀ bits i = (i ≤ 20) × (eqb bits 0 ≡ all-below i (byteZeroAt x))

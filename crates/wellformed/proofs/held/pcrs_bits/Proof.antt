@@ -6,8 +6,8 @@ use Rattle.lists.proofs.All.{all-end, bits-none, bits-step}
 use Rattle.wellformed.specs.WellFormed.{pcrZeroAt, pcrsZero}
 use borrow.Author.Needs.{needs}
 use native.Mathlib.Omega.{arith}
-use Rattle.wellformed.proofs.pcrs_bits.Statement.{statement}
-use Rattle.wellformed.proofs.pcrs_bits.Tie as tie
+use Rattle.wellformed.proofs.held.pcrs_bits.Statement.{statement}
+use Rattle.wellformed.proofs.held.pcrs_bits.Tie as tie
 
 abbrev Inv-loop : tie.InvT-loop
 Inv-loop pcrs bits₀ i₀ bits i = (i ≤ 8) × (eqb bits 0 ≡ all-below i (pcrZeroAt pcrs))

@@ -1,7 +1,7 @@
 use borrow.Author.Needs.{needs}
 use Rattle.wellformed.proofs.Slots.{slot-used, slot-free}
-use Rattle.wellformed.proofs.slot_right.Statement.{statement}
-use Rattle.wellformed.proofs.slot_right.Tie as tie
+use Rattle.wellformed.proofs.held.slot_right.Statement.{statement}
+use Rattle.wellformed.proofs.held.slot_right.Tie as tie
 
 used-right-requires : tie.Need-used-right-requires
 used-right-requires c κs = search needs

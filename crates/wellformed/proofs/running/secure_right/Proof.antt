@@ -1,6 +1,6 @@
 use borrow.Author.Needs.{needs}
-use Rattle.wellformed.proofs.secure_right.Statement.{statement}
-use Rattle.wellformed.proofs.secure_right.Tie as tie
+use Rattle.wellformed.proofs.running.secure_right.Statement.{statement}
+use Rattle.wellformed.proofs.running.secure_right.Tie as tie
 
 any-output-requires : tie.Need-any-output-requires
 any-output-requires c κs = search needs

@@ -7,8 +7,8 @@ use Rattle.fields.specs.Fields.{fieldsOf}
 use Rattle.lists.proofs.Any.{any-none, any-step, any-end}
 use Rattle.wellformed.specs.WellFormed.{outputAt}
 use native.Mathlib.Omega.{arith}
-use Rattle.wellformed.proofs.any_output.Statement.{statement}
-use Rattle.wellformed.proofs.any_output.Tie as tie
+use Rattle.wellformed.proofs.running.any_output.Statement.{statement}
+use Rattle.wellformed.proofs.running.any_output.Tie as tie
 
 abbrev Inv-loop : tie.InvT-loop
 Inv-loop e n entries ok₀ i₀ ok i = (i ≤ e) × (ok ≡ any-below i (outputAt (fieldsOf 0 e [] entries) n))
