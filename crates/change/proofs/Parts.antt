@@ -26,7 +26,7 @@ use Rattle.change.specs.declared.Turn.{Turn}
 use Rattle.change.specs.declared.Turn.the-variants.{Kept, Enters, Leaves, Frees, Extends, Enrolls}
 use Rattle.change.specs.declared.Steer.{Steer}
 use Rattle.change.specs.Turns.{changedBy, freshSlot, withPcr, Fits}
-use Rattle.change.specs.Parts.{steering, placing, seating, Seats, taken, seated, inMode}
+use Rattle.change.specs.Parts.{steering, placing, seating, Seats, taken, seatStored, modeStored}
 use Rattle.change.proofs.Given.{given-painted}
 
 -- a test that the code asks the other way round
@@ -40,19 +40,19 @@ on false e = absurd (true≢false e)
 
 -- each part, where it is stored and where it is not
 module _ (s : State) where
-  pub unseated : (t : Turn) (x : Fields) (d : Digest) → not (placing t .seats) ≡ true → s ≡ seated s t x d
+  pub unseated : (t : Turn) (x : Fields) (d : Digest) → not (placing t .seats) ≡ true → s ≡ seatStored s t x d
   unseated t x d e = sym (pick-false (placing t .seats) (taken s (placing t .number) (seating (getD (s .slots) (placing t .number) noSlot) t x d)) s (off (placing t .seats) e))
 
-  pub seated-so : (t : Turn) (x : Fields) (d : Digest) → not (placing t .seats) ≡ false → taken s (placing t .number) (seating (getD (s .slots) (placing t .number) noSlot) t x d) ≡ seated s t x d
+  pub seated-so : (t : Turn) (x : Fields) (d : Digest) → not (placing t .seats) ≡ false → taken s (placing t .number) (seating (getD (s .slots) (placing t .number) noSlot) t x d) ≡ seatStored s t x d
   seated-so t x d e = sym (pick-true (placing t .seats) (taken s (placing t .number) (seating (getD (s .slots) (placing t .number) noSlot) t x d)) s (on (placing t .seats) e))
 
   abbrev moded : Mode → Running → State
   moded m y = record { pages = s .pages; kept = s .kept; owner = s .owner; slots = s .slots; mode = m; running = y }
 
-  pub unmoded : (x : Steer) → not (x .steers) ≡ true → s ≡ inMode s x
+  pub unmoded : (x : Steer) → not (x .steers) ≡ true → s ≡ modeStored s x
   unmoded x e = λ i. moded (sym (pick-false (x .steers) (x .mode) (s .mode) (off (x .steers) e)) i) (sym (pick-false (x .steers) (x .running) (s .running) (off (x .steers) e)) i)
 
-  pub moded-so : (x : Steer) → not (x .steers) ≡ false → moded (x .mode) (x .running) ≡ inMode s x
+  pub moded-so : (x : Steer) → not (x .steers) ≡ false → moded (x .mode) (x .running) ≡ modeStored s x
   moded-so x e = λ i. moded (sym (pick-true (x .steers) (x .mode) (s .mode) (on (x .steers) e)) i) (sym (pick-true (x .steers) (x .running) (s .running) (on (x .steers) e)) i)
 
 -- no run, no other owner
@@ -66,7 +66,7 @@ module _ (o : List ℕ) (long : length o ≡ mostPages) where
       → paintedRuns o (getD l k noSlot .card .fields .runs) 0 (getD l k noSlot .card .fields .r) ≡ given o (getD (map cardOf l) k noCard .fields) 0
   open-painted l k f = given-painted o (getD l k noSlot .card .fields) 0 long (f .fits) ∙ ap (λ (y : Card). given o (y .fields) 0) (sym (card-at l k))
 
-pub by-parts : (s : State) (t : Turn) (x : Fields) (d : Digest) → length (s .owner) ≡ mostPages → Fits s t x → inMode (seated s t x d) (steering t) ≡ changedBy s t x d
+pub by-parts : (s : State) (t : Turn) (x : Fields) (d : Digest) → length (s .owner) ≡ mostPages → Fits s t x → modeStored (seatStored s t x d) (steering t) ≡ changedBy s t x d
 by-parts s Kept x d l f = refl
 by-parts s (Enters y) x d l f = refl
 by-parts s (Leaves y) x d l f = refl

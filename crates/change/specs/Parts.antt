@@ -1,6 +1,7 @@
 -- What a turn stores, part by part: the mode and the running record; a slot, and the owner that pages get.
 use Prim.Native.Nat.{ℕ, _+_, _<_}
 use mathlib.Core.Bool.{true, false}
+use mathlib.Core.List.{List}
 use lib.ListN.{getD, set}
 use Rattle.lists.specs.Below.{pick}
 use Rattle.geometry.specs.Geometry.{slotCount, pcrCount}
@@ -80,16 +81,23 @@ Seats (Frees k) = Unit {0}
 Seats (Extends k i) = i < pcrCount
 Seats (Enrolls k mark) = k < slotCount
 
+-- the pages' owners, and the slots, with the seat taken in slot k
+abbrev pub ownersBy : Seat → List ℕ → List ℕ
+ownersBy x owner = paintedRuns owner (x .fields .runs) (x .owner) (x .fields .r)
+
+abbrev pub slotsBy : Seat → ℕ → List Slot → List Slot
+slotsBy x k slots = set slots k (x .slot)
+
 -- the state with the seat taken in slot k
 abbrev pub taken : State → ℕ → Seat → State
-taken s k x = record { pages = s .pages; kept = s .kept; owner = paintedRuns (s .owner) (x .fields .runs) (x .owner) (x .fields .r); slots = set (s .slots) k (x .slot); mode = s .mode; running = s .running }
+taken s k x = record { pages = s .pages; kept = s .kept; owner = ownersBy x (s .owner); slots = slotsBy x k (s .slots); mode = s .mode; running = s .running }
 
 -- the state with each of these parts stored
-abbrev pub seated : State → Turn → Fields → Digest → State
-seated s t x d = pick (placing t .seats) (taken s (placing t .number) (seating (getD (s .slots) (placing t .number) noSlot) t x d)) s
+abbrev pub seatStored : State → Turn → Fields → Digest → State
+seatStored s t x d = pick (placing t .seats) (taken s (placing t .number) (seating (getD (s .slots) (placing t .number) noSlot) t x d)) s
 
-abbrev pub inMode : State → Steer → State
-inMode s x = record {
+abbrev pub modeStored : State → Steer → State
+modeStored s x = record {
   pages = s .pages;
   kept = s .kept;
   owner = s .owner;

@@ -243,9 +243,9 @@ pub fn seating(was: Slot, c: Change) -> Seat
     }
 }
 
-fn seated(s: State, c: Change) -> State
+fn seat_stored(s: State, c: Change) -> State
     requires { ⌜ Turns.Fits s (c .turn) (c .fields) ⌝ }
-    ensures { λ r. ⌜ r ≡ Parts.seated s (c .turn) (c .fields) (c .digest) ⌝ }
+    ensures { λ r. ⌜ r ≡ Parts.seatStored s (c .turn) (c .fields) (c .digest) ⌝ }
 {
     let turn = c.turn;
     let place = placing(turn);
@@ -264,8 +264,8 @@ fn seated(s: State, c: Change) -> State
     t
 }
 
-fn in_mode(s: State, x: Steer) -> State
-    ensures { λ r. ⌜ r ≡ Parts.inMode s x ⌝ }
+fn mode_stored(s: State, x: Steer) -> State
+    ensures { λ r. ⌜ r ≡ Parts.modeStored s x ⌝ }
 {
     if !x.steers {
         return s;
@@ -290,5 +290,5 @@ pub fn changed(s: State, c: Change) -> State
     ensures { λ r. ⌜ r ≡ Turns.changedBy s (c .turn) (c .fields) (c .digest) ⌝ }
 {
     let turn = c.turn;
-    in_mode(seated(s, c), steering(turn))
+    mode_stored(seat_stored(s, c), steering(turn))
 }

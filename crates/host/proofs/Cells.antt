@@ -17,7 +17,7 @@ use mir.Syntax.{Ty, Local, local, tyArray, tyBool}
 use mir.Raw.{raw as rawTy}
 use mir.Val.{Val, vstruct, ofList}
 use base.Logic.{SProp, ent, sep, wand, all, allE, apply∗, id⊢}
-use base.Fml.{Share, fat, fsep}
+use base.Fml.{Share, fat, froom, fdies, fsep}
 use prog.Memory.{size}
 use prog.Model.{elems}
 use prog.Wp.{Heap}
@@ -35,6 +35,23 @@ abbrev pub typeOf : List Local → ℕ → Ty
 typeOf [] k = tyBool
 typeOf (local τ z ∷ ls) zero = τ
 typeOf (local τ z ∷ ls) (suc k) = typeOf ls k
+
+-- and the blocks that they lie in
+abbrev pub blockOf : List ℕ → ℕ → ℕ
+blockOf [] k = 0
+blockOf (l ∷ ls) zero = l
+blockOf (l ∷ ls) (suc k) = blockOf ls k
+
+-- local i in its block: room for a value, a value, and the duty to free it
+module _ {M : Type 1} {𝓤 : URA M} (loc : ℕ → ℕ) (τ : Ty) (i : ℕ) where
+  abbrev pub room : Item 𝓤
+  room = ‵ (froom τ (loc i) 0)
+
+  abbrev pub full : Val → Item 𝓤
+  full v = ‵ (fat fullShare τ (loc i) 0 v)
+
+  abbrev pub dies : Item 𝓤
+  dies = ‵ (fdies τ (loc i))
 
 -- what a branch tells
 pub holds : (y : Bool) → T y → y ≡ true

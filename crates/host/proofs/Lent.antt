@@ -72,6 +72,19 @@ module _ (t : Monitor) (is : Is T.the-row t (vals t)) where
   pub slots-long : length (slot-vals (t .slots)) ≡ 8
   slots-long = length-map (map (L.the-type .to) (t .slots)) (LL.tuple-val L.the-type L′.the-laws) ∙ LL.owed T.the-type T′.the-laws t _ is .1 .1 .1 .0 .1 .0 .1
 
+  -- its numbers are words
+  pub pages-fits : t .pages < 2 ^ 64
+  pages-fits = LL.owed T.the-type T′.the-laws t _ is .0 .1
+
+  pub kept-fits : t .kept < 2 ^ 64
+  kept-fits = LL.owed T.the-type T′.the-laws t _ is .1 .0 .1
+
+  pub running-is : Is P.the-row (t .running) (LL.vals P.the-type P′.the-laws (t .running))
+  running-is = LL.owed T.the-type T′.the-laws t _ is .1 .1 .1 .1 .1 .0
+
+  pub running-fits : t .running .slot < 2 ^ 64
+  running-fits = LL.owed P.the-type P′.the-laws (t .running) _ running-is .0 .1
+
   -- slot k as it is read
   pub slot-val-at : (k : ℕ) → k < 8 → getD (slot-vals (t .slots)) k vunit ≡ slot-val (getD (t .slots) k noSlot)
   slot-val-at k l =

@@ -8,3 +8,4 @@ pub mod Refused
 pub mod Seeing
 pub mod Sweep
 pub mod Told
+pub mod Within

@@ -3,10 +3,10 @@ use Prim.Native.Nat.{ℕ, _<_}
 use mathlib.Core.Path.{_≡_}
 use mathlib.Core.Bool.{false}
 use mathlib.Core.List.{List}
-use lib.ListN.{getD, set}
+use lib.ListN.{getD}
 use Rattle.lists.specs.Below.{pick}
 use Rattle.geometry.specs.Geometry.{slotCount}
-use Rattle.painting.specs.Painting.{paintedRuns, RunsFit}
+use Rattle.painting.specs.Painting.{RunsFit}
 use Rattle.state.specs.declared.Mode.{Mode}
 use Rattle.state.specs.Zero.{noSlot, zeroRunning}
 use Rattle.events.specs.declared.Answer.the-variants.{Done}
@@ -18,7 +18,7 @@ use Rattle.change.specs.declared.Change.{Change}
 use Rattle.change.specs.declared.Seat.{Seat}
 use Rattle.change.specs.declared.Turn.the-variants.{Kept}
 use Rattle.change.specs.Turns.{turnOf}
-use Rattle.change.specs.Parts.{steering, placing, seating, Seats}
+use Rattle.change.specs.Parts.{steering, placing, seating, Seats, ownersBy, slotsBy}
 use Rattle.twin.specs.declared.Monitor.{Monitor}
 use Rattle.twin.specs.declared.Request.{Request}
 use Rattle.twin.specs.declared.Reply.{Reply}
@@ -94,11 +94,11 @@ abbrev pub seatIn : Monitor → Heard → Seat
 seatIn m h = seating (getD (m .slots) (h .number) noSlot) (h .change .turn) (h .change .fields) (h .change .digest)
 
 -- and with that slot, and its pages' owner
-abbrev pub taken : Monitor → ℕ → Seat → Monitor
-taken m k x = record { pages = m .pages; kept = m .kept; owner = paintedRuns (m .owner) (x .fields .runs) (x .owner) (x .fields .r); slots = set (m .slots) k (x .slot); mode = m .mode; running = m .running }
+abbrev pub filled : Monitor → ℕ → Seat → Monitor
+filled m k x = record { pages = m .pages; kept = m .kept; owner = ownersBy x (m .owner); slots = slotsBy x k (m .slots); mode = m .mode; running = m .running }
 
 abbrev pub stored : Monitor → Heard → Monitor
-stored m h = pick (h .seats) (taken (steered m h) (h .number) (seatIn (steered m h) h)) (steered m h)
+stored m h = pick (h .seats) (filled (steered m h) (h .number) (seatIn (steered m h) h)) (steered m h)
 
 -- what an event comes to: the reply, and the state with these parts stored, for which there is room
 pub record Comes (m : Monitor) (h : Heard) (memory buffer : List ℕ) (o : Hosted) : Type 0 where

@@ -12,8 +12,8 @@ use Rattle.change.specs.Parts.{seating, taken}
 use Rattle.change.proofs.Parts.{unseated, seated-so, place-fits, seats, seat-fits}
 use native.Mathlib.Omega.{arith}
 use borrow.Author.Needs.{needs}
-use Rattle.change.proofs.seated.Statement.{statement}
-use Rattle.change.proofs.seated.Tie as tie
+use Rattle.change.proofs.seat_stored.Statement.{statement}
+use Rattle.change.proofs.seat_stored.Tie as tie
 
 placing-requires : tie.Need-placing-requires
 placing-requires c κs = search needs
@@ -52,8 +52,8 @@ returns-2 c =
     ∙ ap (λ (p : Place). taken s (p .number) (seating (getD (a .s .slots) (p .number) noSlot) (a .c .turn) (a .c .fields) (a .c .digest))) (c .before .before .before .before .before .before .before .before .placing .ensures)
     ∙ seated-so s (a .c .turn) (a .c .fields) (a .c .digest) (ap (λ (p : Place). not (p .seats)) (sym (c .before .before .before .before .before .before .before .before .placing .ensures)) ∙ c .before .before .before .before .before .before .if1 .left)
 
-pub seated-spec : {M : Type 1} → statement M
-seated-spec =
+pub seat-stored-spec : {M : Type 1} → statement M
+seat-stored-spec =
     tie.close
     (tie.spec
     placing-requires
