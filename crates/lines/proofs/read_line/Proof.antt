@@ -28,31 +28,27 @@ arguments-of-requires c κs = search needs
 field-count-requires : tie.Need-field-count-requires
 field-count-requires c κs = search needs
 
+-- what the line came with
+abbrev given : tie.After-arguments-of → tie.Start
+given a = a .before .before .before .before .before .before .before
+
+-- what is known once its numbers are read
+known : (a : tie.After-arguments-of) → Known (given a .args .line .now) (a .before .before .before .field-of .result .now) (a .before .before .verb-of .result) (a .before .shape-of .result) (a .arguments-of .result)
+known a = record { word = a .before .before .before .field-of .ensures; verb = a .before .before .verb-of .ensures; shape = a .before .shape-of .ensures; numbers = a .arguments-of .ensures }
+
+-- and that it is not too long
+abbrev short : tie.After-arguments-of → tie.Else1
+short a = a .before .before .before .before
+
 returns-2 : tie.Need-returns-2
 returns-2 c =
     let a = c .before .before .before in
-    let s = a .before in
-    let v = s .before in
-    let f = v .before in
-    let x = f .before .before .before .before in
-    let l = x .args .line .now in
-    let m = x .args .payload .now in
-    let k : Known l (f .field-of .result .now) (v .verb-of .result) (s .shape-of .result) (a .arguments-of .result) =
-    record { word = f .field-of .ensures; verb = v .verb-of .ensures; shape = s .shape-of .ensures; numbers = a .arguments-of .ensures } in
-    no-count k m _ (c .before .before .field-count .ensures) (c .if2 .taken)
+    no-count (known a) (given a .args .payload .now) _ (c .before .before .field-count .ensures) (c .if2 .taken)
 
 returns-3 : tie.Need-returns-3
 returns-3 c =
     let a = c .before .before .before .before .before in
-    let s = a .before in
-    let v = s .before in
-    let f = v .before in
-    let x = f .before .before .before .before in
-    let l = x .args .line .now in
-    let m = x .args .payload .now in
-    let k : Known l (f .field-of .result .now) (v .verb-of .result) (s .shape-of .result) (a .arguments-of .result) =
-    record { word = f .field-of .ensures; verb = v .verb-of .ensures; shape = s .shape-of .ensures; numbers = a .arguments-of .ensures } in
-    no-number k m (not-true _ (c .if3 .taken))
+    no-number (known a) (given a .args .payload .now) (not-true _ (c .if3 .taken))
 
 event-of-requires : tie.Need-event-of-requires
 event-of-requires c κs = search needs
@@ -64,15 +60,7 @@ returns-4 c =
     let h = g .before .before in
     let n = h .before .before in
     let a = n .before in
-    let s = a .before in
-    let v = s .before in
-    let f = v .before in
-    let x = f .before .before .before .before in
-    let l = x .args .line .now in
-    let m = x .args .payload .now in
-    let k : Known l (f .field-of .result .now) (v .verb-of .result) (s .shape-of .result) (a .arguments-of .result) =
-    record { word = f .field-of .ensures; verb = v .verb-of .ensures; shape = s .shape-of .ensures; numbers = a .arguments-of .ensures } in
-    yes-plain k m _ _ (f .before .if1 .left) (n .field-count .ensures) (h .if2 .left) (not-false _ (g .if3 .left)) (o .event-of .ensures) (not-true _ (c .if4 .taken))
+    yes-plain (known a) (given a .args .payload .now) _ _ (short a .if1 .left) (n .field-count .ensures) (h .if2 .left) (not-false _ (g .if3 .left)) (o .event-of .ensures) (not-true _ (c .if4 .taken))
 
 add-field-of : tie.Need-add-field-of
 add-field-of c =
@@ -96,15 +84,7 @@ returns-5 c =
     let h = g .before .before in
     let n = h .before .before in
     let a = n .before in
-    let s = a .before in
-    let v = s .before in
-    let f = v .before in
-    let x = f .before .before .before .before in
-    let l = x .args .line .now in
-    let m = x .args .payload .now in
-    let k : Known l (f .field-of .result .now) (v .verb-of .result) (s .shape-of .result) (a .arguments-of .result) =
-    record { word = f .field-of .ensures; verb = v .verb-of .ensures; shape = s .shape-of .ensures; numbers = a .arguments-of .ensures } in
-    no-hex k m (t .field-of2 .result .now) (not-false _ (p .if4 .left)) (t .field-of2 .ensures) (sym (i .is-hex .ensures) ∙ not-true _ (c .if5 .taken))
+    no-hex (known a) (given a .args .payload .now) (t .field-of2 .result .now) (not-false _ (p .if4 .left)) (t .field-of2 .ensures) (sym (i .is-hex .ensures) ∙ not-true _ (c .if5 .taken))
 
 put-hex-requires : tie.Need-put-hex-requires
 put-hex-requires c κs =
@@ -132,15 +112,7 @@ returns-6 c =
     let h = g .before .before in
     let n = h .before .before in
     let a = n .before in
-    let s = a .before in
-    let v = s .before in
-    let f = v .before in
-    let x = f .before .before .before .before in
-    let l = x .args .line .now in
-    let m = x .args .payload .now in
-    let k : Known l (f .field-of .result .now) (v .verb-of .result) (s .shape-of .result) (a .arguments-of .result) =
-    record { word = f .field-of .ensures; verb = v .verb-of .ensures; shape = s .shape-of .ensures; numbers = a .arguments-of .ensures } in
-    let y = yes-hex k m _ _ (f .before .if1 .left) (n .field-count .ensures) (h .if2 .left) (not-false _ (g .if3 .left)) (o .event-of .ensures) (t .field-of2 .result .now) (not-false _ (p .if4 .left)) (t .field-of2 .ensures) (sym (i .is-hex .ensures) ∙ not-false _ (q .if5 .left)) in
+    let y = yes-hex (known a) (given a .args .payload .now) _ _ (short a .if1 .left) (n .field-count .ensures) (h .if2 .left) (not-false _ (g .if3 .left)) (o .event-of .ensures) (t .field-of2 .result .now) (not-false _ (p .if4 .left)) (t .field-of2 .ensures) (sym (i .is-hex .ensures) ∙ not-false _ (q .if5 .left)) in
     (y .0, u .put-hex .ensures ∙ y .1)
 
 pub read-line-spec : {M : Type 1} → statement M

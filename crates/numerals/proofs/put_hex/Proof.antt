@@ -1,5 +1,5 @@
 use mathlib.Core.Path.{_≡_, refl, ap, _∙_}
-use Prim.Native.Nat.{ℕ, _≤_, _-_, _*_, _+_, _/_}
+use Prim.Native.Nat.{ℕ, _≤_, _<_, _-_, _*_, _+_, _/_}
 use lib.ListN.{length, length-set}
 use lib.Seq.{sets}
 use Rattle.lists.specs.Below.{table}
@@ -44,8 +44,9 @@ shared-slice-read-hex-value-2 c = omega arith
 hex-value-requires-2 : tie.Need-hex-value-requires-2 Inv-loop μ-loop
 hex-value-requires-2 c κs = search needs
 
-mul-out : tie.Need-mul-out Inv-loop μ-loop
-mul-out c =
+-- the two digits' values are below 16
+digits : (c : tie.After-hex-value2 Inv-loop μ-loop) → (c .before .before .hex-value .result < 16) × (c .hex-value2 .result < 16)
+digits c =
     let h = c .before .before in
     let l = h .before .before .before in
     let s = l .before .before .before in
@@ -53,18 +54,13 @@ mul-out c =
     let i = l .loop .i in
     let e = hex-digit-at x (i * 2) (s .pre .0) (omega arith) (omega arith) in
     let f = hex-digit-at x (i * 2 + 1) (s .pre .0) (omega arith) (omega arith) in
-    omega (arith, e, h .hex-value .ensures)
+    (omega (arith, e, h .hex-value .ensures), omega (arith, f, c .hex-value2 .ensures))
+
+mul-out : tie.Need-mul-out Inv-loop μ-loop
+mul-out c = let d = digits c in omega (arith, d .0)
 
 add-out : tie.Need-add-out Inv-loop μ-loop
-add-out c =
-    let h = c .before .before in
-    let l = h .before .before .before in
-    let s = l .before .before .before in
-    let x = s .args .text .now in
-    let i = l .loop .i in
-    let e = hex-digit-at x (i * 2) (s .pre .0) (omega arith) (omega arith) in
-    let f = hex-digit-at x (i * 2 + 1) (s .pre .0) (omega arith) (omega arith) in
-    omega (arith, e, f, h .hex-value .ensures, c .hex-value2 .ensures)
+add-out c = let d = digits c in omega (arith, d .0, d .1)
 
 slice-write-out : tie.Need-slice-write-out Inv-loop μ-loop
 slice-write-out c = omega arith
