@@ -3,6 +3,7 @@
 # at most 1.2. No part of the gate: a time is no test.
 set -eu
 cd "$(dirname "$0")/.."
+. bench/machine.sh
 work=target/bench/host
 rm -rf "$work"
 mkdir -p "$work/target"
@@ -11,18 +12,6 @@ for part in target/*; do # what is proved already need not be proved again
 done
 cp -r crates crates.txt host bench/host.c "$work"
 cd "$work"
-
-install() { # COMMAND PACKAGE: from Debian's packages, where the command is not there
-    command -v "$1" >/dev/null || { apt-get update -qq && apt-get install -y -qq "$2" >/dev/null; }
-}
-gcc=gcc run=''
-if [ "$(uname -m)" != x86_64 ]; then
-    echo "This machine is no x86-64: the code runs under an emulator, and only the ratios say something."
-    gcc=x86_64-linux-gnu-gcc run=qemu-x86_64-static
-    install "$gcc" gcc-x86-64-linux-gnu
-    install "$run" qemu-user-static
-fi
-install "$gcc" gcc
 
 # the same code and proofs, and the monitor's step by value
 sed -i 's/^host: /host: touch monitor /' crates.txt

@@ -4,21 +4,12 @@
 #   bench/lines.sh [LINES]
 set -eu
 cd "$(dirname "$0")/.."
+. bench/machine.sh
 lines=${1:-1000000}
 work=target/bench/lines
 mkdir -p "$work"
 [ -x target/bin/bench ] || { echo "target/bin/bench is not there: rt check bench"; exit 1; }
 
-install() { # COMMAND PACKAGE: from Debian's packages, where the command is not there
-    command -v "$1" >/dev/null || { apt-get update -qq && apt-get install -y -qq "$2" >/dev/null; }
-}
-gcc=gcc
-if [ "$(uname -m)" != x86_64 ]; then
-    echo "This machine is no x86-64: both run under the emulator, and only the ratio says something."
-    gcc=x86_64-linux-gnu-gcc
-    install "$gcc" gcc-x86-64-linux-gnu
-fi
-install "$gcc" gcc
 trace=$work/trace-$lines
 tests/second/build.sh
 [ -s "$trace" ] || { target/second/release/compare trace 1 "$lines" >"$trace.new" && mv "$trace.new" "$trace"; }

@@ -3,23 +3,12 @@
 # run: prints ns and ratios, and the calls that LLVM made of the loops. No part of the gate: a time is no test.
 set -eu
 cd "$(dirname "$0")/.."
+. bench/machine.sh
 work=target/bench/memory
 rm -rf "$work"
 mkdir -p "$work"
 cp -r crates crates.txt bench/memory.c "$work"
 cd "$work"
-
-install() { # COMMAND PACKAGE: from Debian's packages, where the command is not there
-    command -v "$1" >/dev/null || { apt-get update -qq && apt-get install -y -qq "$2" >/dev/null; }
-}
-gcc=gcc run=''
-if [ "$(uname -m)" != x86_64 ]; then
-    echo "This machine is no x86-64: the code runs under an emulator, and only the ratios say something."
-    gcc=x86_64-linux-gnu-gcc run=qemu-x86_64-static
-    install "$gcc" gcc-x86-64-linux-gnu
-    install "$run" qemu-user-static
-fi
-install "$gcc" gcc
 
 # the same code and proofs, the functions given a name that C can call
 sed -i -E 's/^pub fn (zero|move|put|give)/#[no_mangle]\npub extern "C" fn \1/' crates/memory/src/lib.rt

@@ -2,25 +2,13 @@
 # The proved monitor, called as firmware calls it (host/archive.sh, over a lent state), beside the plain C monitor by gcc -O3, in one
 # run: first random events on which both must do the same, then ns and ratios with the TrustVisor report's tables 2 and 3
 # beside them (other hardware, a 2.3 GHz AMD Opteron, and the processor's switch between guest and host is in its times),
-# registration beside the bare hash of its pages, and the deepest stack use. No part of the gate: a time is no test.
+# registration beside the bare hash of its pages, and the deepest stack use; under an emulator the instructions of one event too. No part of the gate: a time is no test.
 set -eu
 cd "$(dirname "$0")/.."
+. bench/machine.sh
 work=target/bench/monitor
 rm -rf "$work"
 mkdir -p "$work/bare"
-
-install() { # COMMAND PACKAGE: from Debian's packages, where the command is not there
-    command -v "$1" >/dev/null || { apt-get update -qq && apt-get install -y -qq "$2" >/dev/null; }
-}
-gcc=gcc run=''
-if [ "$(uname -m)" != x86_64 ]; then
-    echo "This machine is no x86-64: the code runs under the toolchain's emulator. Its nanoseconds say nothing and its ratios little of vector code;"
-    echo "so the instructions of one event are counted too."
-    home=${RATTLE_HOME:-$(cd "$(dirname "$(readlink -f "$(command -v rt)")")/.." && pwd)}
-    gcc=x86_64-linux-gnu-gcc run=$home/on/$(uname -m)/toolchain/bin/qemu-x86_64
-    install "$gcc" gcc-x86-64-linux-gnu
-fi
-install "$gcc" gcc
 
 archive() { # FOLDER NAME: the archive of a proved crate of the repository in a folder
     (cd "$1" && rt staticlib "$2") >"$work/staticlib.log" 2>&1 || { tail -n 5 "$work/staticlib.log"; exit 1; }

@@ -7,16 +7,15 @@
 # than on x86-64 also gcc-x86-64-linux-gnu.
 set -euo pipefail
 cd "$(dirname "$0")/.."
+. bench/machine.sh
 out=target/bench
 mkdir -p "$out"
 rt staticlib wellformed_c >"$out/staticlib.log" 2>&1 || { tail -n 20 "$out/staticlib.log"; exit 1; }
-gcc=gcc run='' count=''
-if [ "$(uname -m)" != x86_64 ]; then
-    gcc=x86_64-linux-gnu-gcc
+count=''
+if [ -n "$run" ]; then
     # the emulator counts each turn of a `rep movsb` as an instruction, so memcpy is told to copy by vectors
     large=1000000
-    home=$(cd "$(dirname "$(readlink -f "$(command -v rt)")")/.." && pwd)
-    run="$home/on/$(uname -m)/toolchain/bin/qemu-x86_64 -cpu max -E GLIBC_TUNABLES=glibc.cpu.x86_rep_movsb_threshold=$large:glibc.cpu.x86_rep_stosb_threshold=$large" count=yes
+    run="$run -cpu max -E GLIBC_TUNABLES=glibc.cpu.x86_rep_movsb_threshold=$large:glibc.cpu.x86_rep_stosb_threshold=$large" count=yes
 fi
 $gcc -O3 -static bench/wellformed.c bench/plain_wellformed.c target/staticlib/libwellformed_c.a -o "$out/wellformed" 2>"$out/link.log" || { cat "$out/link.log"; exit 1; }
 
