@@ -58,14 +58,14 @@ use Rattle.wellformed.proofs.Sight.Laws as S′
 use Rattle.twin.proofs.Monitor as T
 use Rattle.twin.proofs.Monitor.Laws as T′
 use Rattle.host.proofs.Heard.Laws as R′
-use Rattle.host.proofs.Cells.{room, full, raw-whole, elt}
+use Rattle.walks.proofs.Cells.{room, full, raw-whole, elt}
 use Rattle.host.proofs.Lent.{spelled, vals, slot-val, owner-vals, parts}
 use Rattle.change.proofs.seating as sg
 use Rattle.change.proofs.seating.Symbol.{name as #sg}
 use Rattle.painting.proofs.paint_runs as n
 use Rattle.painting.proofs.paint_runs.Symbol.{name as #n}
 use mir.Syntax.{tyPtr, tyRef, erased, mut}
-use Rattle.host.proofs.Loans.{Table, table-vals, table-mut, mut-table, mut-table-ty}
+use Rattle.host.proofs.Tables.{Table, table-vals, table-mut, mut-table, mut-table-ty}
 use Rattle.host.proofs.Within.{reaches, takes, cell, owners-out, owners-back, reach, take, there}
 use Rattle.host.proofs.Told.{owner-at, slots-at, mode-at, running-at, mode-told, running-told, number-told, change-told, slot-made, fields-made, owner-made, r-made, runs-made, answered, seat-parts, change-vals, runs-vals, seat-slot, seat-owner, seat-r, seat-runs}
 

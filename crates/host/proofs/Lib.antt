@@ -1,11 +1,10 @@
 pub mod Arms
 pub mod Arrays
 pub mod Carried
-pub mod Cells
 pub mod Lent
-pub mod Loans
 pub mod Refused
 pub mod Seeing
 pub mod Sweep
+pub mod Tables
 pub mod Told
 pub mod Within

@@ -48,8 +48,8 @@ use Rattle.twin.proofs.Monitor as T
 use Rattle.twin.proofs.Monitor.Laws as T′
 use Rattle.host.specs.Host.{hostLooks, hostLooked}
 use Rattle.host.proofs.Lent.{spelled, vals}
-use Rattle.host.proofs.Cells.{room, full, raw-whole}
-use Rattle.host.proofs.Loans.{ref, lent-mut, back-mut}
+use Rattle.walks.proofs.Cells.{room, full, raw-whole}
+use Rattle.walks.proofs.Loans.{ref, lent-mut, back-mut}
 use Rattle.host.proofs.Told.{mode-at, slot-looked, page-looked, other-looked}
 use Rattle.host.proofs.looking as k
 use Rattle.host.proofs.looking.Symbol.{name as #k}

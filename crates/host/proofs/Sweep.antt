@@ -58,9 +58,10 @@ use Rattle.twin.specs.declared.Monitor.{Monitor}
 use Rattle.twin.specs.Twin.{openedOf}
 use Rattle.twin.proofs.Monitor as T
 use Rattle.twin.proofs.Monitor.Laws as T′
-use Rattle.host.proofs.Cells.{room, full, raw-whole}
+use Rattle.walks.proofs.Cells.{room, full, raw-whole}
 use Rattle.host.proofs.Lent.{spelled, vals, slot-val, running-val, owner-vals, slot-vals, slots-long, slot-at, slot-val-at, owner-is, running-fits}
-use Rattle.host.proofs.Loans.{Table, table-vals, table-at, ref, table-mut, table-shr, mut-table, shr-table, shr-table-ty, mut-table-ty}
+use Rattle.walks.proofs.Loans.{ref}
+use Rattle.host.proofs.Tables.{Table, table-vals, table-at, table-mut, table-shr, mut-table, shr-table, shr-table-ty, mut-table-ty}
 use Rattle.host.proofs.Within.{takes, owners-out, owners-back, take}
 use Rattle.host.proofs.Told.{owner-at, running-at, slot-run}
 use Rattle.wellformed.proofs.begun as bg

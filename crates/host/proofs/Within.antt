@@ -29,9 +29,9 @@ use Rattle.state.proofs.Slot as L
 use Rattle.state.proofs.Slot.Laws as L′
 use Rattle.twin.proofs.Monitor as T
 use Rattle.twin.proofs.Monitor.Laws as T′
-use Rattle.host.proofs.Cells.{room, full, raw-whole, elt}
+use Rattle.walks.proofs.Cells.{room, full, raw-whole, elt}
 use Rattle.host.proofs.Lent.{slot-val, owner-vals, parts}
-use Rattle.host.proofs.Loans.{table-at}
+use Rattle.host.proofs.Tables.{table-at}
 use Rattle.host.proofs.Told.{owner-at, slots-at}
 
 -- the place of the slot whose number is in local j, into local c; the state is lent to local 1

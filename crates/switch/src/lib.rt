@@ -1,7 +1,6 @@
 // The running call's record at the host's two switch points: "entering and leaving, it is lent and updated where it stands" (document 01).
 use state::Running;
 ghost use mathlib.Core.Path.{_≡_};
-ghost use Prim.Native.Nat.{ℕ};
 ghost use Rattle.state.specs.Zero.{zeroRunning};
 ghost use Rattle.rules.specs.Tests.{keptAs};
 ghost use Rattle.switch.specs.Record.{enteredRecord, leftOf, CallEnters, ReturnLeaves};

@@ -75,7 +75,7 @@ use Rattle.host.specs.Host.{Comes, steered, seatIn, filled, stored, host
 use Rattle.host.proofs.Heard as R
 use Rattle.host.proofs.Heard.Laws as R′
 use Rattle.host.proofs.Lent.{spelled, vals, slot-val, running-val, owner-vals, slot-vals, parts, to-mode, to-slots, to-owner, slot-vals-set, slots-long, slot-at, slot-val-at, owner-is, mode-is, slot-is, owners-are}
-use Rattle.host.proofs.Cells.{room, full, dies, typeOf, blockOf, holds, fails}
+use Rattle.walks.proofs.Cells.{room, full, dies, typeOf, blockOf, holds, fails}
 use Rattle.host.proofs.Told.{reply-told, steers-told, seats-told, answers, known-reply, known-mode, known-running, known-number, known-change, seat-slot}
 use Rattle.host.proofs.Arms.{told, steers, seats, B, N, En, on, held, steer, find, fill, paint}
 use Rattle.host.proofs.Seeing.{K, Y, look-at, seeing}

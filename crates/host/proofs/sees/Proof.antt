@@ -68,10 +68,10 @@ use Rattle.twin.specs.declared.Monitor.{Monitor}
 use Rattle.twin.specs.Twin.{modeOf, openedOf}
 use Rattle.twin.proofs.Monitor as T
 use Rattle.twin.proofs.Monitor.Laws as T′
-use Rattle.host.proofs.Cells.{room, full, dies, raw-whole, typeOf, blockOf}
+use Rattle.walks.proofs.Cells.{room, full, dies, raw-whole, typeOf, blockOf}
 use Rattle.host.proofs.Carried.{mode-fits}
 use Rattle.host.proofs.Lent.{spelled, vals, slot-val, slot-vals, running-val, slot-at, owner-is, pages-fits, kept-fits, running-is, zeros-is, zeros-val}
-use Rattle.host.proofs.Loans.{Table, table-vals, table-at, table-mut, table-shr, mut-table, shr-table, shr-table-ty, mut-table-ty}
+use Rattle.host.proofs.Tables.{Table, table-vals, table-at, table-mut, table-shr, mut-table, shr-table, shr-table-ty, mut-table-ty}
 use Rattle.host.proofs.Within.{owners-out, owners-back}
 use Rattle.host.proofs.Told.{owner-at, mode-at, running-at, pages-at, kept-at}
 use Rattle.host.proofs.Sweep.{more, turn, hand, tail, start, B, R, D, Sweep, Nearer, Nearer-wf, pg, kp, md, rn, begun-args, to-b, goes-b, handed-args, to-d, goes-d, En, near, later-on, body, found, finds, round}

@@ -1,0 +1,1 @@
+// Laws for walks of MIR by hand: cells within cells, and loans; no code.
