@@ -27,7 +27,8 @@ use Rattle.rules.specs.Plan.{guard}
 use Rattle.rules.specs.Tests.{entryOf, slotFor, freeSlot, allOpen}
 use Rattle.rules.specs.Decide.{released, registered, registerRule, unregisterRule, entered, callEntry, callRule, returnRule, jumpLegacy, jumpSecure, readRule, writeRule, extendRule, pcrRule, ruleIn, decide}
 use Rattle.alive.specs.Rows.{answered, Holds}
-use Rattle.alive.specs.States.{fresh, fieldsFrom, slotFrom, held, someZeros, full}
+use Rattle.rules.specs.Act.{zeroPcrs}
+use Rattle.alive.specs.States.{fresh, fieldsFrom, slotFrom, held, full}
 use Rattle.alive.specs.Examples.{Example, allRight, long, numbersOf, unread, read, examples}
 use Rattle.alive.specs.Answers.{rests, runs, accepted, refused}
 use Rattle.alive.proofs.Wells.{Well, well-fresh, well-idle, well-called, well-full, not-zero}
@@ -90,56 +91,56 @@ unfolding accepted startOf freshState held slotFrom fieldsFrom decide guard rule
 events-accepted =
     told fresh well-fresh _ _ _ _ _ refl
     ▸ told fresh well-fresh _ _ _ _ _ refl
-    ▸ told rests (well-idle someZeros) _ _ _ _ _ refl
-    ▸ told rests (well-idle someZeros) _ _ _ _ _ refl
-    ▸ told rests (well-idle someZeros) _ _ _ _ _ refl
-    ▸ told rests (well-idle someZeros) _ _ _ _ _ refl
-    ▸ told rests (well-idle someZeros) _ _ _ _ _ refl
-    ▸ told rests (well-idle someZeros) _ _ _ _ _ refl
-    ▸ told rests (well-idle someZeros) _ _ _ _ _ refl
-    ▸ told rests (well-idle someZeros) _ _ _ _ _ refl
-    ▸ told runs (well-called someZeros) _ _ _ _ _ refl
-    ▸ told runs (well-called someZeros) _ _ _ _ _ refl
-    ▸ told runs (well-called someZeros) _ _ _ _ _ refl
-    ▸ told runs (well-called someZeros) _ _ _ _ _ refl
-    ▸ told runs (well-called someZeros) _ _ _ _ _ refl
-    ▸ told runs (well-called someZeros) _ _ _ _ _ refl
-    ▸ told runs (well-called someZeros) _ _ _ _ _ refl
-    ▸ told runs (well-called someZeros) _ _ _ _ _ refl
-    ▸ told runs (well-called someZeros) _ _ _ _ _ refl
-    ▸ told runs (well-called someZeros) _ _ _ _ _ refl
-    ▸ told runs (well-called someZeros) _ _ _ _ _ refl
-    ▸ told runs (well-called someZeros) _ _ _ _ _ refl
+    ▸ told rests (well-idle zeroPcrs) _ _ _ _ _ refl
+    ▸ told rests (well-idle zeroPcrs) _ _ _ _ _ refl
+    ▸ told rests (well-idle zeroPcrs) _ _ _ _ _ refl
+    ▸ told rests (well-idle zeroPcrs) _ _ _ _ _ refl
+    ▸ told rests (well-idle zeroPcrs) _ _ _ _ _ refl
+    ▸ told rests (well-idle zeroPcrs) _ _ _ _ _ refl
+    ▸ told rests (well-idle zeroPcrs) _ _ _ _ _ refl
+    ▸ told rests (well-idle zeroPcrs) _ _ _ _ _ refl
+    ▸ told runs (well-called zeroPcrs) _ _ _ _ _ refl
+    ▸ told runs (well-called zeroPcrs) _ _ _ _ _ refl
+    ▸ told runs (well-called zeroPcrs) _ _ _ _ _ refl
+    ▸ told runs (well-called zeroPcrs) _ _ _ _ _ refl
+    ▸ told runs (well-called zeroPcrs) _ _ _ _ _ refl
+    ▸ told runs (well-called zeroPcrs) _ _ _ _ _ refl
+    ▸ told runs (well-called zeroPcrs) _ _ _ _ _ refl
+    ▸ told runs (well-called zeroPcrs) _ _ _ _ _ refl
+    ▸ told runs (well-called zeroPcrs) _ _ _ _ _ refl
+    ▸ told runs (well-called zeroPcrs) _ _ _ _ _ refl
+    ▸ told runs (well-called zeroPcrs) _ _ _ _ _ refl
+    ▸ told runs (well-called zeroPcrs) _ _ _ _ _ refl
     ▸ tt
 
 pub refusals-given : Holds refused
 unfolding refused startOf freshState full table held slotFrom fieldsFrom decide guard ruleIn registerRule registered unregisterRule released callRule callEntry entered returnRule jumpLegacy jumpSecure readRule writeRule extendRule pcrRule slotFor entryOf freeSlot allOpen isRange all-below any-below first-below hasPage inCode
 refusals-given =
     unwell zeroState not-zero _ _ _ _
-    ▸ told rests (well-idle someZeros) _ _ _ _ _ refl
-    ▸ told runs (well-called someZeros) _ _ _ _ _ refl
-    ▸ told rests (well-idle someZeros) _ _ _ _ _ refl
-    ▸ told rests (well-idle someZeros) _ _ _ _ _ refl
-    ▸ told rests (well-idle someZeros) _ _ _ _ _ refl
-    ▸ told rests (well-idle someZeros) _ _ _ _ _ refl
-    ▸ told rests (well-idle someZeros) _ _ _ _ _ refl
-    ▸ told rests (well-idle someZeros) _ _ _ _ _ refl
-    ▸ told rests (well-idle someZeros) _ _ _ _ _ refl
-    ▸ told rests (well-idle someZeros) _ _ _ _ _ refl
-    ▸ told runs (well-called someZeros) _ _ _ _ _ refl
-    ▸ told runs (well-called someZeros) _ _ _ _ _ refl
-    ▸ told runs (well-called someZeros) _ _ _ _ _ refl
-    ▸ told runs (well-called someZeros) _ _ _ _ _ refl
-    ▸ told rests (well-idle someZeros) _ _ _ _ _ refl
-    ▸ told rests (well-idle someZeros) _ _ _ _ _ refl
+    ▸ told rests (well-idle zeroPcrs) _ _ _ _ _ refl
+    ▸ told runs (well-called zeroPcrs) _ _ _ _ _ refl
+    ▸ told rests (well-idle zeroPcrs) _ _ _ _ _ refl
+    ▸ told rests (well-idle zeroPcrs) _ _ _ _ _ refl
+    ▸ told rests (well-idle zeroPcrs) _ _ _ _ _ refl
+    ▸ told rests (well-idle zeroPcrs) _ _ _ _ _ refl
+    ▸ told rests (well-idle zeroPcrs) _ _ _ _ _ refl
+    ▸ told rests (well-idle zeroPcrs) _ _ _ _ _ refl
+    ▸ told rests (well-idle zeroPcrs) _ _ _ _ _ refl
+    ▸ told rests (well-idle zeroPcrs) _ _ _ _ _ refl
+    ▸ told runs (well-called zeroPcrs) _ _ _ _ _ refl
+    ▸ told runs (well-called zeroPcrs) _ _ _ _ _ refl
+    ▸ told runs (well-called zeroPcrs) _ _ _ _ _ refl
+    ▸ told runs (well-called zeroPcrs) _ _ _ _ _ refl
+    ▸ told rests (well-idle zeroPcrs) _ _ _ _ _ refl
+    ▸ told rests (well-idle zeroPcrs) _ _ _ _ _ refl
     ▸ told full well-full _ _ _ _ _ refl
-    ▸ told rests (well-idle someZeros) _ _ _ _ _ refl
-    ▸ told rests (well-idle someZeros) _ _ _ _ _ refl
-    ▸ told rests (well-idle someZeros) _ _ _ _ _ refl
-    ▸ told rests (well-idle someZeros) _ _ _ _ _ refl
-    ▸ told rests (well-idle someZeros) _ _ _ _ _ refl
-    ▸ told rests (well-idle someZeros) _ _ _ _ _ refl
-    ▸ told runs (well-called someZeros) _ _ _ _ _ refl
-    ▸ told runs (well-called someZeros) _ _ _ _ _ refl
-    ▸ told runs (well-called someZeros) _ _ _ _ _ refl
+    ▸ told rests (well-idle zeroPcrs) _ _ _ _ _ refl
+    ▸ told rests (well-idle zeroPcrs) _ _ _ _ _ refl
+    ▸ told rests (well-idle zeroPcrs) _ _ _ _ _ refl
+    ▸ told rests (well-idle zeroPcrs) _ _ _ _ _ refl
+    ▸ told rests (well-idle zeroPcrs) _ _ _ _ _ refl
+    ▸ told rests (well-idle zeroPcrs) _ _ _ _ _ refl
+    ▸ told runs (well-called zeroPcrs) _ _ _ _ _ refl
+    ▸ told runs (well-called zeroPcrs) _ _ _ _ _ refl
+    ▸ told runs (well-called zeroPcrs) _ _ _ _ _ refl
     ▸ tt

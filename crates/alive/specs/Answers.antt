@@ -12,7 +12,8 @@ use Rattle.events.specs.declared.Event.the-variants.{Register, Unregister, Call
 use Rattle.events.specs.declared.Answer.{Answer}
 use Rattle.events.specs.declared.Answer.the-variants.{Done, Slot, Entered, Left, Terminated, Filled, Refused}
 use Rattle.alive.specs.Rows.{answered, Row}
-use Rattle.alive.specs.States.{fresh, fieldsFrom, idle, called, someZeros, full}
+use Rattle.rules.specs.Act.{zeroPcrs}
+use Rattle.alive.specs.States.{fresh, fieldsFrom, idle, called, full}
 use Rattle.alive.specs.Examples.{long, unread}
 
 -- a manifest that names page p for code and the next for param
@@ -27,10 +28,10 @@ abbrev pub registers : State → Reading → Answer → Row
 registers s x a = record { gives = answered s pageSize 40 x (Register 7); says = a }
 
 abbrev pub rests : State
-rests = idle someZeros
+rests = idle zeroPcrs
 
 abbrev pub runs : State
-runs = called someZeros
+runs = called zeroPcrs
 
 unfoldable pub accepted : List Row
 accepted =

@@ -2,7 +2,7 @@
 use Prim.Native.Nat.{ℕ}
 use mathlib.Core.Bool.{Bool, true, _&&_}
 use mathlib.Core.List.{List, [], _∷_}
-use lib.ListN.{take, set}
+use lib.ListN.{take}
 use lib.Seq.{sets}
 use Rattle.lists.specs.Numbers.{little}
 use Rattle.geometry.specs.Geometry.{pageSize}
@@ -12,6 +12,7 @@ use Rattle.manifest.specs.Reader.{equal, ruleBroken, readManifest}
 use Rattle.state.specs.Face.{Face, faceOf}
 use Rattle.start.specs.Start.{startOf}
 use Rattle.devicemap.specs.Map.{mapOf}
+use Rattle.devicemap.specs.Promise.{given}
 use Rattle.events.specs.declared.Event.the-variants.{Read}
 use Rattle.events.specs.declared.Answer.{Answer}
 use Rattle.events.specs.Answers.{toldBy}
@@ -44,10 +45,6 @@ manifest l n = record { gives = readManifest l .refusal ∷ []; says = n ∷ [] 
 -- the device map of a face, and the byte that it is
 abbrev pub maps : Face → ℕ → Example
 maps f byte = record { gives = mapOf f; says = byte ∷ [] }
-
--- with one page given to a codeblock in slot 0
-abbrev pub owned : Face → ℕ → Face
-owned f p = record { pages = f .pages; kept = f .kept; owner = set (f .owner) p 1; cards = f .cards; mode = f .mode; running = f .running }
 
 -- an answer's number and values
 abbrev pub numbersOf : Answer → List ℕ
@@ -84,7 +81,7 @@ examples =
     -- E7: "fresh device map 80 (hex)"
     ∷ maps (faceOf fresh) 0x80
     -- E8: "with pages 2 and 3 owned, 8C"
-    ∷ maps (owned (owned (faceOf fresh) 2) 3) 0x8c
+    ∷ maps (given (given (faceOf fresh) 2) 3) 0x8c
     -- E9: "P=2, M=1: FE"
     ∷ maps (faceOf (startOf 2 1 .state)) 0xfe
     -- E10: "fresh, legacy read of 1 at 4095 accepted, of 2 there 4"

@@ -4,7 +4,7 @@ use mathlib.Core.Bool.{true}
 use mathlib.Core.List.{List, [], _∷_}
 use lib.ListN.{replicate}
 use Rattle.lists.specs.Below.{table}
-use Rattle.geometry.specs.Geometry.{slotCount, pcrCount}
+use Rattle.geometry.specs.Geometry.{slotCount}
 use Rattle.fields.specs.declared.Fields.{Fields}
 use Rattle.fields.specs.Fields.{noRun, noEntry}
 use Rattle.sha1.specs.declared.Digest.{Digest}
@@ -13,8 +13,9 @@ use Rattle.state.specs.declared.Mode.the-variants.{Legacy, Secure}
 use Rattle.state.specs.declared.Running.{Running}
 use Rattle.state.specs.declared.Slot.{Slot}
 use Rattle.state.specs.declared.State.{State}
-use Rattle.state.specs.Zero.{zeroSlot, zeroRunning, zeroPcr}
+use Rattle.state.specs.Zero.{zeroSlot, zeroRunning}
 use Rattle.start.specs.Start.{startOf}
+use Rattle.rules.specs.Act.{zeroPcrs}
 
 -- P=8, M=1, as start gives it
 abbrev pub fresh : State
@@ -50,16 +51,13 @@ idle pcrs = held pcrs Legacy zeroRunning
 abbrev pub called : List Digest → State
 called pcrs = held pcrs (Secure 0) (record { slot = 0; out = 200; length = 4 })
 
-abbrev pub someZeros : List Digest
-someZeros = replicate pcrCount zeroPcr
-
 -- P=20, M=1, all eight slots registered on pages 0 to 15
 unfoldable pub full : State
 full = record {
   pages = 20;
   kept = 1;
   owner = 1 ∷ 1 ∷ 2 ∷ 2 ∷ 3 ∷ 3 ∷ 4 ∷ 4 ∷ 5 ∷ 5 ∷ 6 ∷ 6 ∷ 7 ∷ 7 ∷ 8 ∷ 8 ∷ 0 ∷ 0 ∷ 0 ∷ 255 ∷ replicate 1004 0;
-  slots = table (λ k. slotFrom (2 * k) someZeros) slotCount;
+  slots = table (λ k. slotFrom (2 * k) zeroPcrs) slotCount;
   mode = Legacy;
   running = zeroRunning;
 }

@@ -43,7 +43,8 @@ use Rattle.rules.specs.Decide.{callRule, callEntry, entryFor, entered, returnRu
 use Rattle.touch.specs.Carried.{Owned, IsSlot}
 use Rattle.touch.proofs.Plans.{pass, stop}
 use Rattle.rules.proofs.Ranges.{range-fits}
-use Rattle.touch.proofs.Ready.{right, few-pages, kept-in, runs-in, ready, long}
+use Rattle.wellformed.proofs.States.{well-state, well-long}
+use Rattle.touch.proofs.Ready.{right, few-pages, kept-in, runs-in}
 use Rattle.change.specs.declared.Change.{Change}
 use Rattle.change.specs.declared.Turn.the-variants.{Enters, Leaves}
 use Rattle.change.specs.Turns.{inMode, turnOf, Settles}
@@ -112,13 +113,13 @@ module _ (s : State) (h : stateRight s ≡ true) where
 -- its out range lies in memory
 pub out-fits : (s : State) (n k : ℕ) → wellFormed s n ≡ true → s .mode ≡ Secure k → s .running .out + s .running .length ≤ n
 out-fits s n k w e =
-    let h = ready s n w in
+    let h = well-state s n w in
     let z = runs-in s h k e in
     go (ℕ-discrete (s .running .length) 0) (z .out)
   where
     go : Dec (s .running .length ≡ 0) → outRight (faceOf s) (s .running .out) (s .running .length) ≡ true → s .running .out + s .running .length ≤ n
     go (yes q) t = omega (arith, out-none (faceOf s) (s .running .out) (s .running .length) t q)
-    go (no q) t = omega (arith, range-fits (s .pages) (s .running .out) (s .running .length) (out-range (faceOf s) (s .running .out) (s .running .length) t q), long s n w)
+    go (no q) t = omega (arith, range-fits (s .pages) (s .running .out) (s .running .length) (out-range (faceOf s) (s .running .out) (s .running .length) t q), well-long s n w)
 
 -- ---- the state in another mode is the rule's
 

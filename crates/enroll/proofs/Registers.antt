@@ -6,18 +6,16 @@ use mathlib.Core.Bool.{true, false}
 use mathlib.Core.List.{List, _++_}
 use lib.ListN.{length, set}
 use lib.Dec.{ltb, eqb}
-use Rattle.lists.specs.Below.{all-below}
 use Rattle.lists.specs.Bytes.{gather}
-use Rattle.lists.proofs.Logic.{and-r, decided}
 use Rattle.geometry.specs.Geometry.{pageSize, slotCount, startOf}
 use Rattle.sha1.specs.declared.Digest.{Digest}
 use Rattle.sha1.specs.Sha1.{sha1}
 use Rattle.fields.specs.declared.Fields.{Fields}
-use Rattle.fields.specs.Rules.{keepsRules}
 use Rattle.fields.specs.Pages.{pagesOf}
 use Rattle.fields.proofs.Facts.{Kept, kept}
 use Rattle.manifest.specs.declared.Reading.{Reading}
-use Rattle.manifest.specs.Reader.{trailed, runsIn, blankAt, fieldsIn, accepts, refusedReading, readManifest}
+use Rattle.manifest.specs.Reader.{readManifest}
+use Rattle.manifest.proofs.Accepts.{read-keeps}
 use Rattle.state.specs.declared.Slot.{Slot}
 use Rattle.state.specs.declared.State.{State}
 use Rattle.state.specs.Zero.{zeroPcr}
@@ -37,17 +35,6 @@ use Rattle.change.specs.Turns.{freshSlot, enrolledState, enrollsBy, Settles}
 use Rattle.enroll.proofs.Opened.{open-in}
 
 -- ---- what is read and not refused keeps the rules
-
-accepts-keeps : (l : List ℕ) → accepts l ≡ true → keepsRules (fieldsIn l) ≡ true
-unfolding accepts
-accepts-keeps l h = and-r (all-below (runsIn l) (blankAt l)) _ (and-r (trailed l) _ h)
-
-pub read-keeps : (l : List ℕ) → readManifest l .refusal ≡ 0 → keepsRules (readManifest l .fields) ≡ true
-unfolding readManifest refusedReading
-read-keeps l h =
-    decided (accepts l)
-    (λ e. rw e (accepts-keeps l e))
-    (λ e. let z = rw e at h in absurd (omega arith))
 
 pub read-kept : (l : List ℕ) (r : Reading) → r ≡ readManifest l → r .refusal ≡ 0 → Kept (r .fields)
 read-kept l r e h =

@@ -31,7 +31,8 @@ use Rattle.rules.specs.Tests.{isOwn}
 use Rattle.rules.specs.Act.{fetched, stored, extended, measured, sealed, act, planOf, step}
 use Rattle.rules.proofs.Lists.{gather-same}
 use Rattle.preserved.specs.Preserved.{Well, Ask, afterOne, after}
-use Rattle.preserved.proofs.Stays.{read-keeps, stored-long, face-right, step-well, step-pages, step-kept}
+use Rattle.manifest.proofs.Accepts.{read-keeps}
+use Rattle.preserved.proofs.Stays.{stored-long, face-right, step-well, step-pages, step-kept}
 use Rattle.integrity.specs.Monitor.{monitorFrom, MonitorKept, AlikeBelow, Shown, shownBy, shown, Unseen, MonitorUnseen}
 use Rattle.rules.proofs.Ranges.{Apart}
 use Rattle.integrity.proofs.Spared.{stored-spares}

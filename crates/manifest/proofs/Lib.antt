@@ -3,3 +3,4 @@ pub mod Places
 pub mod Widths
 pub mod Steps
 pub mod Puts
+pub mod Accepts

@@ -1,20 +1,17 @@
 -- Every step keeps well-formedness, and so does every list of events.
 use Prim.Native.Nat.{ℕ}
 use mathlib.Core.Path.{_≡_, refl, sym, ap, subst, _∙_}
-use mathlib.Core.Bool.{Bool, true, false}
+use mathlib.Core.Bool.{true}
 use mathlib.Core.List.{List, [], _∷_}
 use lib.ListN.{length, length-map}
 use lib.Seq.{length-sets}
-use native.Mathlib.Omega.{arith}
-use Rattle.lists.specs.Below.{pick, all-below}
 use Rattle.lists.specs.Bytes.{part}
-use Rattle.lists.proofs.Logic.{and-r}
 use Rattle.lists.proofs.Pages.{wipe-long}
 use Rattle.lists.proofs.Tables.{table-long}
 use Rattle.geometry.specs.Geometry.{pageSize, slotCount, startOf}
 use Rattle.sha1.specs.declared.Digest.{Digest}
-use Rattle.fields.specs.Rules.{keepsRules}
-use Rattle.manifest.specs.Reader.{readManifest, refusedReading, accepts, trailed, runsIn, blankAt, fieldsIn}
+use Rattle.manifest.specs.Reader.{readManifest}
+use Rattle.manifest.proofs.Accepts.{read-keeps}
 use Rattle.state.specs.declared.State.{State}
 use Rattle.state.specs.Face.{Face, cardOf, pcrsIn, faceOf, pcrsOf, slotOf, stateOf}
 use Rattle.state.proofs.Faces.{face-back, pcrs-back}
@@ -26,15 +23,6 @@ use Rattle.rules.specs.Plan.{Store, keep, put, move, clean, Plan}
 use Rattle.rules.specs.Act.{sealed, stored, act, planOf, step}
 use Rattle.preserved.specs.Preserved.{Well, afterOne, StaysWellFormed}
 use Rattle.preserved.proofs.Plans.{Good, seal-right, seal-long, decide-good}
-
--- what the reader accepts keeps the rules
-pub read-keeps : (l : List ℕ) → readManifest l .refusal ≡ 0 → keepsRules (readManifest l .fields) ≡ true
-unfolding readManifest refusedReading accepts
-read-keeps l h = go (accepts l) refl h
-  where
-    go : (t : Bool) → accepts l ≡ t → pick t (record { refusal = 0; fields = fieldsIn l }) refusedReading .refusal ≡ 0 → keepsRules (pick t (record { refusal = 0; fields = fieldsIn l }) refusedReading .fields) ≡ true
-    go true e h = and-r (all-below (runsIn l) (blankAt l)) _ (and-r (trailed l) _ e)
-    go false e h = absurd (omega arith)
 
 -- memory keeps its length
 pub stored-long : (x : Store) (payload m : List ℕ) → length (stored x payload m) ≡ length m

@@ -33,7 +33,8 @@ use Rattle.rules.specs.Decide.{released, unregisterRule, jumpLegacy, jumpSecure
 use Rattle.rules.specs.Act.{sealed}
 use Rattle.touch.specs.Carried.{Owned, IsSlot}
 use Rattle.touch.proofs.Plans.{pass, stop}
-use Rattle.touch.proofs.Ready.{card-is, right, few-pages, few-runs, ready, long}
+use Rattle.wellformed.proofs.States.{well-state, well-long}
+use Rattle.touch.proofs.Ready.{card-is, right, few-pages, few-runs}
 use Rattle.change.specs.declared.Change.{Change}
 use Rattle.change.specs.declared.Turn.the-variants.{Kept, Frees}
 use Rattle.change.specs.Turns.{vacated, turnOf, Settles}
@@ -66,8 +67,8 @@ module _ (s : State) (h : stateRight s ≡ true) where
 -- as the code has the slot
 pub runs-in : (s : State) (n : ℕ) → wellFormed s n ≡ true → (k : ℕ) (x : Slot) → k < slotCount → IsSlot s k x → RunsIn (x .card .fields .r) (x .card .fields .runs) n
 runs-in s n w k x l o =
-    let h = ready s n w in
-    rw (card-is s k x o) (record { few = few-runs s h k l; fits = λ i b. omega (arith, runs-under s h k l i b, long s n w) })
+    let h = well-state s n w in
+    rw (card-is s k x o) (record { few = few-runs s h k l; fits = λ i b. omega (arith, runs-under s h k l i b, well-long s n w) })
 
 -- ---- the rule's release
 

@@ -2,13 +2,11 @@
 use Prim.Native.Nat.{ℕ, _≤_, _<_}
 use native.Mathlib.Omega.{arith}
 use mathlib.Core.Path.{_≡_, refl, sym, ap, subst, _∙_}
-use mathlib.Core.Bool.{true, _&&_}
+use mathlib.Core.Bool.{true}
 use mathlib.Core.List.{[]}
 use lib.ListN.{length, getD}
-use lib.Dec.{eqb}
-use borrow.Author.Tests.{eqb-true}
-use Rattle.lists.proofs.Logic.{and-l, and-r, decided}
-use Rattle.geometry.specs.Geometry.{mostPages, slotCount, pcrCount, digestSize, startOf}
+use Rattle.lists.proofs.Logic.{decided}
+use Rattle.geometry.specs.Geometry.{mostPages, slotCount, pcrCount, digestSize}
 use Rattle.fields.specs.Fields.{fieldsOf}
 use Rattle.fields.specs.declared.Fields.{Fields}
 use Rattle.fields.specs.Rules.{inCode}
@@ -21,10 +19,10 @@ use Rattle.state.specs.Zero.{noPcr, zeroRunning}
 use Rattle.state.specs.Face.{faceOf, cardAt}
 use Rattle.state.proofs.Shape.{DigestShape, SlotShape, each-in}
 use Rattle.state.proofs.Faces.{card-at}
-use Rattle.wellformed.specs.WellFormed.{modeRight, stateRight, wellFormed}
-use Rattle.wellformed.proofs.Facts.{Right, right-of, card-rules, card-free}
+use Rattle.wellformed.specs.WellFormed.{modeRight, stateRight}
+use Rattle.wellformed.proofs.Facts.{Right, right-of, card-rules, no-runs}
 use Rattle.wellformed.proofs.Runs.{Runs, legacy-hold}
-use Rattle.wellformed.proofs.States.{state-face, well-state, well-long}
+use Rattle.wellformed.proofs.States.{state-face}
 use Rattle.rules.proofs.Facts.{running}
 use Rattle.touch.specs.Carried.{IsSlot}
 
@@ -59,20 +57,11 @@ module _ (s : State) (h : stateRight s ≡ true) where
       let x = cardAt (faceOf s) k in
       decided (x .registered)
       (λ e. kept-in k l e .bounds .few-runs)
-      (λ e. let z = card-free x _ (right .cards k l) e in
-      let q = eqb-true (x .fields .r) 0 (and-l (eqb (x .fields .r) 0) _ (and-l (eqb (x .fields .r) 0 && eqb (x .fields .e) 0) _ (and-r (eqb (x .mark) 0) _ z))) in
-      omega arith)
+      (λ e. omega (arith, no-runs x _ (right .cards k l) e))
 
   -- the same, of a slot that the code has
   pub few-runs-in : (k : ℕ) (x : Slot) → k < slotCount → IsSlot s k x → x .card .fields .r ≤ 4
   few-runs-in k x l e = rw (card-is s k x e) (few-runs k l)
-
--- the memory's length
-pub ready : (s : State) (n : ℕ) → wellFormed s n ≡ true → stateRight s ≡ true
-ready s n h = well-state s n h
-
-pub long : (s : State) (n : ℕ) → wellFormed s n ≡ true → n ≡ startOf (s .pages)
-long s n h = well-long s n h
 
 -- code pages go by the runs alone
 pub code-alone : (x : Fields) (p : ℕ) → inCode (fieldsOf (x .r) 0 (x .runs) []) p ≡ inCode x p

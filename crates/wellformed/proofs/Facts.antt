@@ -9,14 +9,13 @@ use borrow.Author.Tests.{leb-true, ltb-true, eqb-true, le-leb, lt-ltb, le-ltb, e
 use Rattle.lists.specs.Below.{all-below, any-below, sum-below}
 use Rattle.lists.proofs.Logic.{and-l, and-r, both, decided, lt-or-ge}
 use Rattle.lists.proofs.All.{all-at, all-of}
-use Rattle.lists.proofs.Any.{Found, any-find}
+use Rattle.lists.proofs.Any.{Found}
 use Rattle.lists.proofs.First.{first-at, first-before}
 use Rattle.geometry.specs.Geometry.{leastPages, mostPages, slotCount}
-use Rattle.fields.specs.declared.Fields.{Fields}
-use Rattle.fields.specs.Fields.{runAt, endOf}
 use Rattle.fields.specs.Rules.{keepsRules}
-use Rattle.fields.specs.Pages.{hasPage, pagesUnder, underAt}
+use Rattle.fields.specs.Pages.{hasPage, pagesUnder}
 use Rattle.fields.specs.Pages as pages
+use Rattle.fields.proofs.PageLaws.{page-under}
 use Rattle.state.specs.declared.Card.{Card}
 use Rattle.state.specs.Face.{Face, cardAt, ownerAt, topOf, isOpen}
 use Rattle.wellformed.specs.WellFormed.{sizesRight, cardZero, cardRight, cardRightAt, holdsAt, heldOnce, timesHeld, monitors, holderOf, ownerBy, ownerRightAt, modeRight, faceRight}
@@ -65,16 +64,6 @@ card-used x top e a b = rw (e, a, b)
 pub card-spare : (x : Card) (top : ℕ) → x .registered ≡ false → cardZero x ≡ true → cardRight x top ≡ true
 unfolding cardRight
 card-spare x top e a = rw e a
-
--- a page of fields whose pages lie under top lies under it
-pub page-under : (f : Fields) (top p : ℕ) → pagesUnder f top ≡ true → hasPage f p ≡ true → p < top
-unfolding pagesUnder hasPage
-page-under f top p u h =
-    let w = any-find (pages.holdsAt f p) (f .r) h in
-    let x = runAt f (w .at) in
-    let a = leb-true (endOf x) top (all-at (underAt f top) (f .r) u (w .at) (w .below)) in
-    let b = ltb-true p (endOf x) (and-r (leb (x .first) p) _ (w .is)) in
-    omega arith
 
 -- a zero card has no runs, so its fields name no page
 zero-runs : (x : Card) → cardZero x ≡ true → x .fields .r ≡ 0

@@ -1,24 +1,14 @@
 -- A count over the numbers below n is at most one exactly when the test holds of no two of them.
-use Prim.Native.Nat.{ℕ, zero, suc, _+_, _≤_, _<_}
+use Prim.Native.Nat.{ℕ, zero, suc, _≤_, _<_}
 use native.Mathlib.Omega.{arith}
 use mathlib.Core.Path.{_≡_, refl}
 use mathlib.Core.Bool.{Bool, true}
 use mathlib.Core.Logic.{⊎-elim}
 use Rattle.lists.specs.Below.{pick, sum-below}
 use Rattle.lists.proofs.Logic.{decided, lt-or-ge}
-use Rattle.lists.proofs.Sums.{sum-part}
+use Rattle.lists.proofs.Sums.{sum-two}
 
 module _ (f : ℕ → ℕ) where
-  -- two parts of a sum are together at most the sum
-  pub sum-two : (n j k : ℕ) → j < k → k < n → f j + f k ≤ sum-below n f
-  unfolding sum-below
-  sum-two zero j k a b = absurd (omega arith)
-  sum-two (suc n) j k a b =
-      ⊎-elim
-      (λ (m : k < n). omega (arith, sum-two n j k a m))
-      (λ (m : n ≤ k). let e : k ≡ n = omega arith in rw e (omega (arith, sum-part f n j (omega arith))))
-      (lt-or-ge k n)
-
   -- a sum of nothing
   pub sum-nil : (n : ℕ) → ((i : ℕ) → i < n → f i ≡ 0) → sum-below n f ≡ 0
   unfolding sum-below

@@ -7,7 +7,7 @@ use mathlib.Core.Bool.{Bool, true, false, _&&_, false≢true}
 use mathlib.Core.List.{List}
 use mathlib.Core.Logic.{_⊎_, inl, inr, ⊎-elim}
 use lib.ListN.{length, getD, replicate, length-replicate, getD-replicate}
-use lib.Dec.{leb, ltb, eqb}
+use lib.Dec.{leb, ltb}
 use borrow.Author.Tests.{leb-true, ltb-true, eqb-true, le-leb, lt-ltb, eq-eqb}
 use Rattle.lists.specs.Below.{all-below}
 use Rattle.lists.proofs.Logic.{and-l, and-r, both, iff, decided, lt-or-ge}
@@ -25,8 +25,8 @@ use Rattle.state.specs.declared.Card.{Card}
 use Rattle.state.specs.declared.Mode.the-variants.{Legacy}
 use Rattle.state.specs.Zero.{zeroRunning}
 use Rattle.state.specs.Face.{Face, cardAt, ownerAt, topOf}
-use Rattle.wellformed.specs.WellFormed.{sizesRight, cardZero, cardRight, cardRightAt, holdsAt, heldOnce, monitors, ownerRightAt, faceRight}
-use Rattle.wellformed.proofs.Facts.{Sizes, sizes-of, Right, right-of, of-right, card-rules, card-under, card-free, card-holds-under}
+use Rattle.wellformed.specs.WellFormed.{sizesRight, cardRight, cardRightAt, holdsAt, heldOnce, monitors, ownerRightAt, faceRight}
+use Rattle.wellformed.proofs.Facts.{Sizes, sizes-of, Right, right-of, of-right, card-rules, card-under, no-runs, card-holds-under}
 use Rattle.wellformed.proofs.Runs.{zero-running}
 
 abbrev pub fieldsAt : Face → ℕ → Fields
@@ -45,23 +45,18 @@ unfoldable pub pagesFast : Face → Bool
 pagesFast f = all-below slotCount (ownedSlot f) && all-below mostPages (alike (paintedTo f slotCount) (f .owner))
 
 -- ---- a right card's runs lie under top, and there are at most four
-zero-none : (x : Card) → cardZero x ≡ true → x .fields .r ≡ 0
-zero-none x h =
-    let f = x .fields in
-    eqb-true (f .r) 0 (and-l (eqb (f .r) 0) _ (and-l (eqb (f .r) 0 && eqb (f .e) 0) _ (and-r (eqb (x .mark) 0) _ h)))
-
 card-few : (x : Card) (top : ℕ) → cardRight x top ≡ true → x .fields .r ≤ runPlaces
 card-few x top h =
     decided (x .registered)
     (λ e. kept (x .fields) (card-rules x top h e) .bounds .few-runs)
-    (λ e. omega (arith, zero-none x (card-free x top h e)))
+    (λ e. omega (arith, no-runs x top h e))
 
 runs-under : (x : Card) (top : ℕ) → cardRight x top ≡ true → (i : ℕ) → i < x .fields .r → endOf (runAt (x .fields) i) ≤ top
 unfolding pagesUnder
 runs-under x top h i l =
     decided (x .registered)
     (λ e. leb-true (endOf (runAt (x .fields) i)) top (all-at (underAt (x .fields) top) (x .fields .r) (card-under x top h e) i l))
-    (λ e. absurd (omega (arith, zero-none x (card-free x top h e))))
+    (λ e. absurd (omega (arith, no-runs x top h e)))
 
 pub runs-fit : (x : Card) (top : ℕ) → top ≤ mostPages → cardRight x top ≡ true → RunsFit (x .fields .r) (x .fields .runs)
 runs-fit x top m h = record { few = card-few x top h; fits = λ i l. omega (arith, runs-under x top h i l) }

@@ -2,7 +2,8 @@ use Rattle.decide.proofs.Outs.{mode-of}
 use Rattle.decide.proofs.Ends.{register-end, unregister-end, call-end, return-end, jump-end, read-end, write-end, device-read-end, device-write-end, extend-end, pcr-end}
 use Rattle.decide.specs.Allowed.{allowed}
 use Rattle.decide.proofs.Sights.{at-page, at-other, at-slot, slot-below, slot-runs}
-use Rattle.touch.proofs.Ready.{ready, mode-below}
+use Rattle.wellformed.proofs.States.{well-state}
+use Rattle.touch.proofs.Ready.{mode-below}
 use Rattle.state.proofs.Shaped.{state-shape}
 use mathlib.Core.Path.{sym, ap, _∙_}
 use borrow.Author.Needs.{needs}
@@ -25,7 +26,7 @@ call-requires c κs =
 jump-requires : tie.Need-jump-requires
 jump-requires c κs =
     let a = c .before .before .before .before .before .before .before .before .before .args in
-    (c .before .before .before .before .before .before .before .before .before .pre .0, (at-page (a .s) (a .event) (a .x) (c .before .before .before .before .before .before .before .before .before .pre .1 .1) _ (c .before .before .event4 .given .1), slot-runs (a .s) (a .x) (ready (a .s) _ (c .before .before .before .before .before .before .before .before .before .pre .0)) (at-slot (a .s) (a .event) (a .x) (c .before .before .before .before .before .before .before .before .before .pre .1 .1) _ (c .before .before .event4 .given .1))))
+    (c .before .before .before .before .before .before .before .before .before .pre .0, (at-page (a .s) (a .event) (a .x) (c .before .before .before .before .before .before .before .before .before .pre .1 .1) _ (c .before .before .event4 .given .1), slot-runs (a .s) (a .x) (well-state (a .s) _ (c .before .before .before .before .before .before .before .before .before .pre .0)) (at-slot (a .s) (a .event) (a .x) (c .before .before .before .before .before .before .before .before .before .pre .1 .1) _ (c .before .before .event4 .given .1))))
 
 read-requires : tie.Need-read-requires
 read-requires c κs =
@@ -35,7 +36,7 @@ read-requires c κs =
 write-requires : tie.Need-write-requires
 write-requires c κs =
     let a = c .before .before .before .before .before .before .before .before .before .args in
-    (c .before .before .before .before .before .before .before .before .before .pre .0, (at-page (a .s) (a .event) (a .x) (c .before .before .before .before .before .before .before .before .before .pre .1 .1) _ (c .before .before .event6 .given .1), slot-runs (a .s) (a .x) (ready (a .s) _ (c .before .before .before .before .before .before .before .before .before .pre .0)) (at-slot (a .s) (a .event) (a .x) (c .before .before .before .before .before .before .before .before .before .pre .1 .1) _ (c .before .before .event6 .given .1))))
+    (c .before .before .before .before .before .before .before .before .before .pre .0, (at-page (a .s) (a .event) (a .x) (c .before .before .before .before .before .before .before .before .before .pre .1 .1) _ (c .before .before .event6 .given .1), slot-runs (a .s) (a .x) (well-state (a .s) _ (c .before .before .before .before .before .before .before .before .before .pre .0)) (at-slot (a .s) (a .event) (a .x) (c .before .before .before .before .before .before .before .before .before .pre .1 .1) _ (c .before .before .event6 .given .1))))
 
 device-read-requires : tie.Need-device-read-requires
 device-read-requires c κs =
@@ -51,18 +52,18 @@ return--requires : tie.Need-return--requires
 return--requires c κs =
     let a = c .before .before .before .before .before .before .before .before .args in
     let m = mode-of (a .s .mode) _ (c .before .before .before .before .slot-in .ensures) (ap (allowed (a .s .mode)) (sym (c .before .enum-told .given .1)) ∙ c .before .before .before .before .before .before .before .before .pre .1 .0) in
-    (c .before .before .before .before .before .before .before .before .pre .0, (m, slot-runs (a .s) (a .x) (ready (a .s) _ (c .before .before .before .before .before .before .before .before .pre .0)) (at-slot (a .s) (a .event) (a .x) (c .before .before .before .before .before .before .before .before .pre .1 .1) _ (c .before .enum-told .given .1)) _ m))
+    (c .before .before .before .before .before .before .before .before .pre .0, (m, slot-runs (a .s) (a .x) (well-state (a .s) _ (c .before .before .before .before .before .before .before .before .pre .0)) (at-slot (a .s) (a .event) (a .x) (c .before .before .before .before .before .before .before .before .pre .1 .1) _ (c .before .enum-told .given .1)) _ m))
 
 extend-requires : tie.Need-extend-requires
 extend-requires c κs =
     let a = c .before .before .before .before .before .before .before .before .before .args in
-    (c .before .before .before .before .before .before .before .before .before .pre .0, (mode-below (a .s) (ready (a .s) _ (c .before .before .before .before .before .before .before .before .before .pre .0)) _ (mode-of (a .s .mode) _ (c .before .before .before .before .before .slot-in .ensures) (ap (allowed (a .s .mode)) (sym (c .before .before .event9 .given .1)) ∙ c .before .before .before .before .before .before .before .before .before .pre .1 .0)), at-page (a .s) (a .event) (a .x) (c .before .before .before .before .before .before .before .before .before .pre .1 .1) _ (c .before .before .event9 .given .1)))
+    (c .before .before .before .before .before .before .before .before .before .pre .0, (mode-below (a .s) (well-state (a .s) _ (c .before .before .before .before .before .before .before .before .before .pre .0)) _ (mode-of (a .s .mode) _ (c .before .before .before .before .before .slot-in .ensures) (ap (allowed (a .s .mode)) (sym (c .before .before .event9 .given .1)) ∙ c .before .before .before .before .before .before .before .before .before .pre .1 .0)), at-page (a .s) (a .event) (a .x) (c .before .before .before .before .before .before .before .before .before .pre .1 .1) _ (c .before .before .event9 .given .1)))
 
 pcr-read-requires : tie.Need-pcr-read-requires
 pcr-read-requires c κs =
     let a = c .before .before .before .before .before .before .before .before .before .args in
     let m = mode-of (a .s .mode) _ (c .before .before .before .before .before .slot-in .ensures) (ap (allowed (a .s .mode)) (sym (c .before .before .event10 .given .1)) ∙ c .before .before .before .before .before .before .before .before .before .pre .1 .0) in
-    (mode-below (a .s) (ready (a .s) _ (c .before .before .before .before .before .before .before .before .before .pre .0)) _ m, slot-runs (a .s) (a .x) (ready (a .s) _ (c .before .before .before .before .before .before .before .before .before .pre .0)) (at-slot (a .s) (a .event) (a .x) (c .before .before .before .before .before .before .before .before .before .pre .1 .1) _ (c .before .before .event10 .given .1)) _ m)
+    (mode-below (a .s) (well-state (a .s) _ (c .before .before .before .before .before .before .before .before .before .pre .0)) _ m, slot-runs (a .s) (a .x) (well-state (a .s) _ (c .before .before .before .before .before .before .before .before .before .pre .0)) (at-slot (a .s) (a .event) (a .x) (c .before .before .before .before .before .before .before .before .before .pre .1 .1) _ (c .before .before .event10 .given .1)) _ m)
 
 returns : tie.Need-returns
 returns c = let a = c .before .before .before .before .before .before .before .before .before .before .args in register-end (a .s) (state-shape (a .s) _ (c .before .before .before .before .before .before .before .before .before .before .good .1 .1 .0) .slots-long) (a .payload .now) (a .buffer .now) (a .memory .now) (a .event) (c .before .before .before .before .before .before .before .before .before .before .pre .1 .0) _ (c .before .before .before .event .given .1) (c .register .ensures)

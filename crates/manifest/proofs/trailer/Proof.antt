@@ -1,6 +1,6 @@
 use Rattle.manifest.specs.Layout.{fixed}
 use Rattle.manifest.specs.Reader.{trailerAt, equal}
-use Prim.Native.Nat.{ℕ, _-_, _+_}
+use Prim.Native.Nat.{ℕ, _+_}
 use mathlib.Core.List.{List}
 use Rattle.lists.proofs.Parts.{part-lent}
 use Rattle.manifest.proofs.Steps.{trailer-test, trailer-is, trailer-bad, trailer-short}

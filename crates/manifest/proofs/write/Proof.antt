@@ -6,7 +6,6 @@ use Rattle.fields.proofs.Facts.{Counts, kept}
 use Rattle.fields.specs.Rules.{keepsRules}
 use mathlib.Core.Bool.{true}
 use lib.ListN.{length}
-use Prim.Native.Nat.{_-_}
 use native.Mathlib.Omega.{arith}
 use mathlib.Core.Path.{_≡_, sym, _∙_, ap}
 use borrow.Author.Needs.{needs}

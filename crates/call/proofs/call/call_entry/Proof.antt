@@ -1,7 +1,7 @@
 use Rattle.call.proofs.Calls.{open-by, in-4, out-4, in-5, out-5, enter-on, entered-settles, param-ready, param-same, param-in}
 use Rattle.switch.proofs.Kept.{kept-fits, kept-part}
 use Rattle.change.proofs.Settled.{still-settles}
-use Rattle.touch.proofs.Ready.{ready, long}
+use Rattle.wellformed.proofs.States.{well-state, well-long}
 use Rattle.rules.specs.Plan.{nothing}
 use Rattle.events.specs.declared.Answer.the-variants as answer
 use Rattle.state.proofs.Shaped.{state-shape}
@@ -50,22 +50,22 @@ param-start-requires : tie.Need-param-start-requires
 param-start-requires c κs =
     let a = c .before .before .before .before .before .before .before .before .before .before .before .before .before .before .before .before .args in
     let w = c .before .before .before .before .before .before .before .before .before .before .before .before .before .before .before .before .pre in
-    param-ready (a .s) (ready (a .s) _ (w .0)) (a .found .k) (w .1 .1 .0 .0) (w .1 .1 .1 .0) (a .found .slot) (w .1 .1 .0 .1)
+    param-ready (a .s) (well-state (a .s) _ (w .0)) (a .found .k) (w .1 .1 .0 .0) (w .1 .1 .1 .0) (a .found .slot) (w .1 .1 .0 .1)
 
 move-bytes-requires : tie.Need-move-bytes-requires
 move-bytes-requires c κs =
     let a = c .before .before .before .before .before .before .before .before .before .before .before .before .before .before .before .before .before .args in
     let w = c .before .before .before .before .before .before .before .before .before .before .before .before .before .before .before .before .before .pre in
-    let h = ready (a .s) _ (w .0) in
-    let f = kept-fits (a .s .pages) (a .input) (a .x .input) _ (long (a .s) _ (w .0)) (sym (c .before .before .before .before .before .before .before .before .before .before .before .before .before .in-range .ensures) ∙ not-false _ (c .before .before .before .before .before .before .before .before .before .before .before .before .if1 .left)) in
+    let h = well-state (a .s) _ (w .0) in
+    let f = kept-fits (a .s .pages) (a .input) (a .x .input) _ (well-long (a .s) _ (w .0)) (sym (c .before .before .before .before .before .before .before .before .before .before .before .before .before .in-range .ensures) ∙ not-false _ (c .before .before .before .before .before .before .before .before .before .before .before .before .if1 .left)) in
     let e = c .param-start .ensures ∙ ap startOf (param-same (a .s) h (a .found .k) (w .1 .1 .0 .0) (w .1 .1 .1 .0) (a .found .slot) (w .1 .1 .0 .1)) in
-    (omega (arith, c .before .kept-as .ensures, f), (omega (arith, e, param-in (a .s) h (a .found .k) (w .1 .1 .0 .0) (w .1 .1 .1 .0), long (a .s) _ (w .0), w .1 .1 .1 .1), omega (arith, w .1 .1 .1 .1)))
+    (omega (arith, c .before .kept-as .ensures, f), (omega (arith, e, param-in (a .s) h (a .found .k) (w .1 .1 .0 .0) (w .1 .1 .1 .0), well-long (a .s) _ (w .0), w .1 .1 .1 .1), omega (arith, w .1 .1 .1 .1)))
 
 returns-5 : tie.Need-returns-5
 returns-5 c = λ payload.
     let a = c .before .before .before .before .before .before .before .before .before .before .before .before .before .before .before .before .before .before .before .before .before .before .args in
     let w = c .before .before .before .before .before .before .before .before .before .before .before .before .before .before .before .before .before .before .before .before .before .before .pre in
-    let h = ready (a .s) _ (w .0) in
+    let h = well-state (a .s) _ (w .0) in
     let m = a .memory .now in
     let e = c .before .before .before .before .move-bytes .ensures
     ∙ (λ i. sets m ((c .before .before .before .before .before .param-start .ensures ∙ ap startOf (param-same (a .s) h (a .found .k) (w .1 .1 .0 .0) (w .1 .1 .1 .0) (a .found .slot) (w .1 .1 .0 .1))) i) (part m (c .before .before .before .before .before .before .kept-as .ensures i) (a .x .input)))

@@ -1,6 +1,6 @@
-use Rattle.call.proofs.return_.return_.Statement.{statement}
 use Rattle.call.proofs.Calls.{returned-settles, output-small, out-fits, param-ready, param-same, param-in}
-use Rattle.touch.proofs.Ready.{ready, long, runs-in}
+use Rattle.wellformed.proofs.States.{well-state, well-long}
+use Rattle.touch.proofs.Ready.{runs-in}
 use Rattle.state.proofs.Shaped.{state-shape}
 use Rattle.lists.specs.Bytes.{part}
 use lib.Seq.{sets}
@@ -9,37 +9,38 @@ use mathlib.Core.Path.{ap, _∙_}
 use Rattle.geometry.specs.Geometry.{startOf}
 use borrow.Author.Needs.{needs}
 use native.Mathlib.Omega.{arith}
+use Rattle.call.proofs.return_.return_.Statement.{statement}
 use Rattle.call.proofs.return_.return_.Tie as tie
 
 param-start-requires : tie.Need-param-start-requires
 param-start-requires c κs =
     let a = c .before .before .before .before .before .before .before .args in
-    let h = ready (a .s) _ (c .before .before .before .before .before .before .before .pre .0) in
+    let h = well-state (a .s) _ (c .before .before .before .before .before .before .before .pre .0) in
     let q = runs-in (a .s) h (a .k) (c .before .before .before .before .before .before .before .pre .1 .0) in
     param-ready (a .s) h (a .k) (q .below) (q .registered) (a .slot) (c .before .before .before .before .before .before .before .pre .1 .1)
 
 add-from : tie.Need-add-from
 add-from c =
     let a = c .before .before .before .before .before .before .before .before .args in
-    let h = ready (a .s) _ (c .before .before .before .before .before .before .before .before .pre .0) in
+    let h = well-state (a .s) _ (c .before .before .before .before .before .before .before .before .pre .0) in
     let q = runs-in (a .s) h (a .k) (c .before .before .before .before .before .before .before .before .pre .1 .0) in
     record { fits = omega (arith, c .param-start .ensures, param-ready (a .s) h (a .k) (q .below) (q .registered) (a .slot) (c .before .before .before .before .before .before .before .before .pre .1 .1) .1 .1) }
 
 move-bytes-requires : tie.Need-move-bytes-requires
 move-bytes-requires c κs =
     let s = c .before .before .before .before .before .before .before .before .before .args .s in
-    let h = ready s _ (c .before .before .before .before .before .before .before .before .before .pre .0) in
+    let h = well-state s _ (c .before .before .before .before .before .before .before .before .before .pre .0) in
     let q = runs-in s h (c .before .before .before .before .before .before .before .before .before .args .k) (c .before .before .before .before .before .before .before .before .before .pre .1 .0) in
     let e = c .before .param-start .ensures ∙ ap startOf (param-same s h (c .before .before .before .before .before .before .before .before .before .args .k) (q .below) (q .registered) (c .before .before .before .before .before .before .before .before .before .args .slot) (c .before .before .before .before .before .before .before .before .before .pre .1 .1)) in
     let o = output-small s h (c .before .before .before .before .before .before .before .before .before .args .k) (c .before .before .before .before .before .before .before .before .before .pre .1 .0) in
     rw (c .before .before .before .before .before .before .leaving .ensures)
-    (omega (arith, e, param-in s h (c .before .before .before .before .before .before .before .before .before .args .k) (q .below) (q .registered), long s _ (c .before .before .before .before .before .before .before .before .before .pre .0), o), (out-fits s _ (c .before .before .before .before .before .before .before .before .before .args .k) (c .before .before .before .before .before .before .before .before .before .pre .0) (c .before .before .before .before .before .before .before .before .before .pre .1 .0), omega (arith, o)))
+    (omega (arith, e, param-in s h (c .before .before .before .before .before .before .before .before .before .args .k) (q .below) (q .registered), well-long s _ (c .before .before .before .before .before .before .before .before .before .pre .0), o), (out-fits s _ (c .before .before .before .before .before .before .before .before .before .args .k) (c .before .before .before .before .before .before .before .before .before .pre .0) (c .before .before .before .before .before .before .before .before .before .pre .1 .0), omega (arith, o)))
 
 returns : tie.Need-returns
 returns c = λ payload.
     let a = c .before .before .before .before .before .before .before .before .before .before .before .before .before .args in
     let s = a .s in
-    let h = ready s _ (c .before .before .before .before .before .before .before .before .before .before .before .before .before .pre .0) in
+    let h = well-state s _ (c .before .before .before .before .before .before .before .before .before .before .before .before .before .pre .0) in
     let r = runs-in s h (a .k) (c .before .before .before .before .before .before .before .before .before .before .before .before .before .pre .1 .0) in
     let q = c .before .before .before .before .before .before .before .before .before .before .leaving .ensures in
     let m = a .memory .now in

@@ -2,7 +2,7 @@ use Rattle.enroll.proofs.Registers.{read-kept, open-runs, register-3, r
 use Rattle.enroll.proofs.Opened.{kept-fit, open-same}
 use Rattle.release.proofs.Releases.{pages-alone}
 use Rattle.change.proofs.Settled.{still-settles, to-plan}
-use Rattle.touch.proofs.Ready.{long}
+use Rattle.wellformed.proofs.States.{well-long}
 use Rattle.rules.specs.Decide.{registerRule, registered}
 use Rattle.rules.specs.Tests.{freeSlot}
 use Rattle.rules.specs.Plan.{nothing}
@@ -76,7 +76,7 @@ measured-requires c κs =
     let r = c .before .before .before .before .before .before .before .before .before .before .read .result in
     let k = read-kept _ r (c .before .before .before .before .before .before .before .before .before .before .read .ensures) (c .before .before .before .before .before .before .before .before .if1 .left) in
     let o = sym (open-same f (r .fields) k) ∙ sym (c .before .before .before .all-open .ensures) ∙ not-false _ (c .before .before .if2 .left) in
-    open-runs f (r .fields) _ k o (long (a .t1) _ (z .pre))
+    open-runs f (r .fields) _ k o (well-long (a .t1) _ (z .pre))
 
 returns-4 : tie.Need-returns-4
 returns-4 c =

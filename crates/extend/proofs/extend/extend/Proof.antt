@@ -1,6 +1,6 @@
 use Rattle.extend.proofs.Extending.{extend-10, extend-4, extend-5, extend-on, source-in, source-same, extended-settles}
 use Rattle.change.proofs.Settled.{still-settles}
-use Rattle.touch.proofs.Ready.{long}
+use Rattle.wellformed.proofs.States.{well-long}
 use Rattle.rules.specs.Plan.{nothing}
 use Rattle.events.specs.declared.Answer.the-variants as answer
 use Rattle.state.proofs.Shaped.{state-shape}
@@ -51,7 +51,7 @@ chosen-requires c κs =
     let z = c .before .before .before .before .before .before .before .before in
     let a = z .args in
     subst (λ (p : ℕ). InRange (a .memory .now) (a .source) p (a .n)) (sym (c .kept-as .ensures))
-    (source-in (faceOf (a .s)) (a .memory .now) (a .source) (length (a .payload .now)) (a .address) (a .n) (long (a .s) _ (z .pre .0)) (sym (c .before .before .before .before .source-right .ensures) ∙ not-false _ (c .before .before .before .if2 .left)))
+    (source-in (faceOf (a .s)) (a .memory .now) (a .source) (length (a .payload .now)) (a .address) (a .n) (well-long (a .s) _ (z .pre .0)) (sym (c .before .before .before .before .source-right .ensures) ∙ not-false _ (c .before .before .before .if2 .left)))
 
 hash-requires : tie.Need-hash-requires
 hash-requires c κs = search needs

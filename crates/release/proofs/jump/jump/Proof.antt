@@ -1,6 +1,7 @@
 use Rattle.change.proofs.Settled.{in-mode}
 use Rattle.release.proofs.Releases.{jump-still}
-use Rattle.touch.proofs.Ready.{ready, mode-below}
+use Rattle.wellformed.proofs.States.{well-state}
+use Rattle.touch.proofs.Ready.{mode-below}
 use Rattle.rules.specs.Decide.{jumpLegacy, jumpSecure, byMode}
 use Rattle.state.proofs.Shaped.{state-shape}
 use Rattle.state.specs.Face.{faceOf}
@@ -21,7 +22,7 @@ jump-secure-requires : tie.Need-jump-secure-requires
 jump-secure-requires c κs =
     let z = c .before .before .before .before .before in
     let e = c .before .before .mode .given .1 in
-    (z .pre .0, (mode-below (z .args .s) (ready (z .args .s) _ (z .pre .0)) _ e, (z .pre .1 .0, z .pre .1 .1 _ e)))
+    (z .pre .0, (mode-below (z .args .s) (well-state (z .args .s) _ (z .pre .0)) _ e, (z .pre .1 .0, z .pre .1 .1 _ e)))
 
 returns : tie.Need-returns
 returns c = λ payload.

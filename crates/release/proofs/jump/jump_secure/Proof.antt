@@ -1,6 +1,7 @@
 use Rattle.release.proofs.Releases.{jump-own, jump-away, released-settles, runs-in, own-code}
 use Rattle.change.proofs.Settled.{still-settles}
-use Rattle.touch.proofs.Ready.{ready, few-runs-in}
+use Rattle.wellformed.proofs.States.{well-state}
+use Rattle.touch.proofs.Ready.{few-runs-in}
 use Rattle.rules.specs.Tests.{ownCode}
 use Rattle.rules.specs.Plan.{nothing}
 use Rattle.events.specs.declared.Answer.the-variants as answer
@@ -20,7 +21,7 @@ in-code-of-requires : tie.Need-in-code-of-requires
 in-code-of-requires c κs =
     let z = c .before .before in
     let a = z .args in
-    few-runs-in (a .s) (ready (a .s) _ (z .pre .0)) (a .k) (a .slot) (z .pre .1 .0) (z .pre .1 .1 .1)
+    few-runs-in (a .s) (well-state (a .s) _ (z .pre .0)) (a .k) (a .slot) (z .pre .1 .0) (z .pre .1 .1 .1)
 
 kept-requires : tie.Need-kept-requires
 kept-requires c κs = search needs
@@ -47,7 +48,7 @@ returns-2 c = λ payload.
     let o : ownCode (faceOf (a .s)) (a .k) (pageOf (a .address)) ≡ false =
     sym (own-code (a .s) (a .k) (pageOf (a .address)) (a .v) (a .slot) (z .pre .1 .1 .0) (z .pre .1 .1 .1)) ∙ sym (λ i. c .before .before .before .before .before .before .before .before .is-own .ensures i && c .before .before .before .before .before .before .before .in-code-of .ensures i) ∙ c .before .before .before .before .if1 .left in
     rw (jump-away (faceOf (a .s)) (a .address) (a .k) o)
-    (released-settles (a .s) (a .k) (state-shape (a .s) _ (z .good .0) .slots-long) (z .pre .1 .0) (answer.Terminated (a .k)) payload (a .memory .now) _ (a .slot) (z .pre .1 .1 .1) (ready (a .s) _ (z .pre .0)) _ (c .before .before .release .ensures .0) (c .before .before .release .ensures .1))
+    (released-settles (a .s) (a .k) (state-shape (a .s) _ (z .good .0) .slots-long) (z .pre .1 .0) (answer.Terminated (a .k)) payload (a .memory .now) _ (a .slot) (z .pre .1 .1 .1) (well-state (a .s) _ (z .pre .0)) _ (c .before .before .release .ensures .0) (c .before .before .release .ensures .1))
 
 pub jump-secure-spec : {M : Type 1} → statement M
 jump-secure-spec =

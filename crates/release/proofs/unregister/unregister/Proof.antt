@@ -1,5 +1,6 @@
 use Rattle.release.proofs.Releases.{unregister-8, unregister-on, released-settles, runs-in}
-use Rattle.touch.proofs.Ready.{ready, card-is}
+use Rattle.wellformed.proofs.States.{well-state}
+use Rattle.touch.proofs.Ready.{card-is}
 use Rattle.change.proofs.Settled.{still-settles}
 use Rattle.rules.specs.Plan.{nothing}
 use Rattle.events.specs.declared.Answer.the-variants as answer
@@ -37,7 +38,7 @@ returns-2 c = λ payload.
     let l = c .before .before .before .before .before .before .before .if1 .left in
     let o = z .pre .1 l in
     rw (unregister-on (faceOf (a .s)) (a .mark) (a .k) (rw (lt-ltb (a .k) slotCount l, ← card-is (a .s) (a .k) (a .slot) o) (c .before .before .before .before .if2 .taken)))
-    (released-settles (a .s) (a .k) (state-shape (a .s) _ (z .good .0) .slots-long) l answer.Done payload (a .memory .now) _ (a .slot) o (ready (a .s) _ (z .pre .0)) _ (c .before .before .release .ensures .0) (c .before .before .release .ensures .1))
+    (released-settles (a .s) (a .k) (state-shape (a .s) _ (z .good .0) .slots-long) l answer.Done payload (a .memory .now) _ (a .slot) o (well-state (a .s) _ (z .pre .0)) _ (c .before .before .release .ensures .0) (c .before .before .release .ensures .1))
 
 kept-requires-2 : tie.Need-kept-requires-2
 kept-requires-2 c κs = search needs

@@ -1,4 +1,4 @@
-use Rattle.touch.proofs.Ready.{ready, long}
+use Rattle.wellformed.proofs.States.{well-state, well-long}
 use Rattle.rules.specs.Tests.{read}
 use Rattle.state.specs.Face.{faceOf, pcrsOf}
 use mathlib.Core.Path.{refl, sym}
@@ -7,10 +7,10 @@ use Rattle.touch.proofs.read.read.Statement.{statement}
 use Rattle.touch.proofs.read.read.Tie as tie
 
 may-read-requires : tie.Need-may-read-requires
-may-read-requires c κs = let z = c .before .before in (ready _ _ (z .pre .0), z .pre .1)
+may-read-requires c κs = let z = c .before .before in (well-state _ _ (z .pre .0), z .pre .1)
 
 give-requires : tie.Need-give-requires
-give-requires c κs = long _ _ (c .before .before .before .before .pre .0)
+give-requires c κs = well-long _ _ (c .before .before .before .before .pre .0)
 
 same-length : tie.Need-same-length
 same-length c = search needs

@@ -1,4 +1,4 @@
-use Rattle.touch.proofs.Ready.{long}
+use Rattle.wellformed.proofs.States.{well-long}
 use Rattle.rules.specs.Tests.{device}
 use Rattle.state.specs.Face.{faceOf}
 use mathlib.Core.Path.{refl, sym}
@@ -10,7 +10,7 @@ device-may-requires : tie.Need-device-may-requires
 device-may-requires c κs = c .before .before .pre .1
 
 take-requires : tie.Need-take-requires
-take-requires c κs = long _ _ (c .before .before .before .before .pre .0)
+take-requires c κs = well-long _ _ (c .before .before .before .before .pre .0)
 
 same-length : tie.Need-same-length
 same-length c = search needs

@@ -1,4 +1,4 @@
-use Rattle.touch.proofs.Ready.{ready, long}
+use Rattle.wellformed.proofs.States.{well-state, well-long}
 use Rattle.rules.specs.Tests.{write}
 use Rattle.state.specs.Face.{faceOf}
 use mathlib.Core.Path.{refl, sym}
@@ -7,10 +7,10 @@ use Rattle.touch.proofs.write.write.Statement.{statement}
 use Rattle.touch.proofs.write.write.Tie as tie
 
 may-write-requires : tie.Need-may-write-requires
-may-write-requires c κs = let z = c .before .before in (ready _ _ (z .pre .0), z .pre .1)
+may-write-requires c κs = let z = c .before .before in (well-state _ _ (z .pre .0), z .pre .1)
 
 take-requires : tie.Need-take-requires
-take-requires c κs = long _ _ (c .before .before .before .before .pre .0)
+take-requires c κs = well-long _ _ (c .before .before .before .before .pre .0)
 
 same-length : tie.Need-same-length
 same-length c = search needs
