@@ -30,7 +30,7 @@ use types.Part.{sub, look-in}
 use sound.WpLaws.{FmC}
 use denote.RattleType.{RattleType, owns}
 use denote.Laws.{Is, shows}
-use denote.Memory.{mem, cellAt}
+use denote.Memory.{mem}
 use denote.Plain.{uint-makes}
 use denote.Builtin.{usize}
 use denote.Ref.{RefT, MutRef, ShrRef}
@@ -62,7 +62,7 @@ use Rattle.walks.proofs.Cells.{room, full, raw-whole}
 use Rattle.host.proofs.Lent.{spelled, vals, slot-val, running-val, owner-vals, slot-vals, slots-long, slot-at, slot-val-at, owner-is, running-fits}
 use Rattle.walks.proofs.Loans.{ref}
 use Rattle.host.proofs.Tables.{Table, table-vals, table-at, table-mut, table-shr, mut-table, shr-table, shr-table-ty, mut-table-ty}
-use Rattle.host.proofs.Within.{takes, owners-out, owners-back, take}
+use Rattle.host.proofs.Within.{takes, cell, owners-out, owners-back, take}
 use Rattle.host.proofs.Told.{owner-at, running-at, slot-run}
 use Rattle.wellformed.proofs.begun as bg
 use Rattle.wellformed.proofs.begun.Symbol.{name as #bg}
@@ -212,13 +212,23 @@ module _ {M : Type 1} (𝓤 : URA M) (H : Heap 𝓤) (A : Atoms 𝓤) (W : Given
       abbrev pub En : Env 𝓤 H
       En = (S′.mir, (loc 0)) ∷ (τ1, (loc 1)) ∷ (tyInt w64, (loc 2)) ∷ (tyInt w64, (loc 3)) ∷ (tyInt w64, (loc 4)) ∷ (tyArray (tyInt w8) 1024, (loc 5)) ∷ (J′.mir, (loc 6)) ∷ (tyInt w64, (loc 7)) ∷ (L′.mir, (loc 8)) ∷ (tyInt w64, (loc 9)) ∷ (L′.mir, (loc 10)) ∷ (tyInt w64, (loc 11)) ∷ (L′.mir, (loc 12)) ∷ (tyInt w64, (loc 13)) ∷ (tyInt w64, (loc 14)) ∷ (mut-table-ty, (loc 15)) ∷ (tyBool, (loc 16)) ∷ (tyInt w64, (loc 17)) ∷ (tyPtr, (loc 18)) ∷ (tyPtr, (loc 19)) ∷ (L′.mir, (loc 20)) ∷ (shr-table-ty, (loc 21)) ∷ (mut-table-ty, (loc 22)) ∷ (tyPtr, (loc 23)) ∷ (tyPtr, (loc 24)) ∷ (L′.mir, (loc 25)) ∷ (tyPtr, (loc 26)) ∷ (tyPtr, (loc 27)) ∷ (shr-table-ty, (loc 28)) ∷ (shr-table-ty, (loc 29)) ∷ (P′.mir, (loc 30)) ∷ []
 
-      -- what a turn needs: the state's cell, the table, the test, k
-      abbrev pub near : List ℕ → Test → ℕ → List (Item 𝓤) → List (Item 𝓤)
-      near tb w k Γ = ‵ (cellAt fullShare (T.the-row .mir) (LL.val T.the-type T′.the-laws h ∷ []) b o) ∷ full loc τ1 1 (vptr b o) ∷ table-at 𝓤 H A W (loc 5) 0 (tb) ∷ full loc J′.mir 6 (LL.val J.the-type J′.the-laws (w)) ∷ full loc (tyInt w64) 7 (vint w64 (k)) ∷ room loc L′.mir 8 ∷ room loc tyBool 16 ∷ room loc (tyInt w64) 17 ∷ room loc tyPtr 18 ∷ room loc tyPtr 19 ∷ room loc L′.mir 20 ∷ room loc shr-table-ty 21 ∷ room loc mut-table-ty 22 ∷ Γ
+      -- what a turn needs: the state's cell, the table, the test and k, which are i5, i6 and i7 before the loop
+      abbrev pub near-with : Item 𝓤 → Item 𝓤 → Item 𝓤 → List (Item 𝓤) → List (Item 𝓤)
+      near-with i5 i6 i7 Γ =
+          cell 𝓤 H A W b o (LL.val T.the-type T′.the-laws h) ∷ full loc τ1 1 (vptr b o) ∷ i5 ∷ i6 ∷ i7 ∷ room loc L′.mir 8 ∷ room loc tyBool 16 ∷ room loc (tyInt w64) 17 ∷ room loc tyPtr 18 ∷ room loc tyPtr 19 ∷ room loc L′.mir 20 ∷ room loc shr-table-ty 21 ∷ room loc mut-table-ty 22 ∷ Γ
 
-      -- and what comes after the loop needs
+      abbrev pub near : List ℕ → Test → ℕ → List (Item 𝓤) → List (Item 𝓤)
+      near tb w k = near-with (table-at 𝓤 H A W (loc 5) 0 tb) (full loc J′.mir 6 (LL.val J.the-type J′.the-laws w)) (full loc (tyInt w64) 7 (vint w64 k))
+
+      -- and what comes after the loop: two numbers and their slots, and what the last call is handed
+      abbrev with : Item 𝓤 → Item 𝓤 → Item 𝓤 → Item 𝓤 → Item 𝓤 → Item 𝓤 → Item 𝓤 → Item 𝓤 → Item 𝓤 → Item 𝓤 → List (Item 𝓤) → List (Item 𝓤)
+      with i9 i10 i11 i12 i13 i14 i28 i29 i30 i0 Γ =
+          full loc (tyInt w64) 2 (vint w64 n) ∷ full loc (tyInt w64) 3 (vint w64 page) ∷ full loc (tyInt w64) 4 (vint w64 other) ∷ i9 ∷ i10 ∷ i11 ∷ i12 ∷ i13 ∷ i14 ∷ room loc mut-table-ty 15
+          ∷ room loc tyPtr 23 ∷ room loc tyPtr 24 ∷ room loc L′.mir 25 ∷ room loc tyPtr 26 ∷ room loc tyPtr 27 ∷ i28 ∷ i29 ∷ i30 ∷ i0 ∷ Γ
+
       abbrev pub later-on : List (Item 𝓤) → List (Item 𝓤)
-      later-on Γ = full loc (tyInt w64) 2 (vint w64 n) ∷ full loc (tyInt w64) 3 (vint w64 page) ∷ full loc (tyInt w64) 4 (vint w64 other) ∷ room loc (tyInt w64) 9 ∷ room loc L′.mir 10 ∷ room loc (tyInt w64) 11 ∷ room loc L′.mir 12 ∷ room loc (tyInt w64) 13 ∷ room loc (tyInt w64) 14 ∷ room loc mut-table-ty 15 ∷ room loc tyPtr 23 ∷ room loc tyPtr 24 ∷ room loc L′.mir 25 ∷ room loc tyPtr 26 ∷ room loc tyPtr 27 ∷ room loc shr-table-ty 28 ∷ room loc shr-table-ty 29 ∷ room loc P′.mir 30 ∷ room loc S′.mir 0 ∷ Γ
+      later-on =
+          with (room loc (tyInt w64) 9) (room loc L′.mir 10) (room loc (tyInt w64) 11) (room loc L′.mir 12) (room loc (tyInt w64) 13) (room loc (tyInt w64) 14) (room loc shr-table-ty 28) (room loc shr-table-ty 29) (room loc P′.mir 30) (room loc S′.mir 0)
 
       -- a turn, after its test
       pub body : (q : After 𝓤 H) (Γ : List (Item 𝓤)) (i : Sweep) (k-few : i .k < 8) → FmC 𝓤 H (W .laws) C → Triple 𝓤 (C #tr) (R 𝓤 H A at-mem run)
@@ -249,9 +259,13 @@ module _ {M : Type 1} (𝓤 : URA M) (H : Heap 𝓤) (A : Atoms 𝓤) (W : Given
           forget ! 5 refl $ forget ! 11 refl $ forget ! 12 refl $
           go (record { k = k + 1; few = add-one-le k-few; table = zs .1 .1 .1 .1 .0; test = r; going = going-on s tb w k (i .going) k-few r (zs .1 .1 .1 .1 .0) (so .0) (so .1); table-is = new-is; test-is = spelled J.the-row (LL.vals J.the-type J′.the-laws) (LL.tells J.the-type J′.the-laws) r _ r-as }) refl))))))))))))
 
-      -- what is had while the two slots are at hand
+      -- what is had once the two slots are at hand
+      abbrev pub around : Sweep → Item 𝓤 → Item 𝓤 → Item 𝓤 → Item 𝓤 → Item 𝓤 → Item 𝓤 → List (Item 𝓤) → List (Item 𝓤)
+      around i i13 i14 i28 i29 i30 i0 Γ =
+          near (i .table) (i .test) (i .k) (with (full loc (tyInt w64) 9 (vint w64 (h .running .slot % 8))) (full loc L′.mir 10 (slot-val (slotAt (h .running .slot % 8)))) (full loc (tyInt w64) 11 (vint w64 (n % 8))) (full loc L′.mir 12 (slot-val (slotAt (n % 8)))) i13 i14 i28 i29 i30 i0 Γ)
+
       abbrev pub found : Sweep → List (Item 𝓤) → List (Item 𝓤)
-      found i Γ = ‵ (cellAt fullShare (T.the-row .mir) (LL.val T.the-type T′.the-laws h ∷ []) b o) ∷ full loc τ1 1 (vptr b o) ∷ table-at 𝓤 H A W (loc 5) 0 (i .table) ∷ full loc J′.mir 6 (LL.val J.the-type J′.the-laws (i .test)) ∷ full loc (tyInt w64) 7 (vint w64 (i .k)) ∷ room loc L′.mir 8 ∷ room loc tyBool 16 ∷ room loc (tyInt w64) 17 ∷ room loc tyPtr 18 ∷ room loc tyPtr 19 ∷ room loc L′.mir 20 ∷ room loc shr-table-ty 21 ∷ room loc mut-table-ty 22 ∷ full loc (tyInt w64) 2 (vint w64 n) ∷ full loc (tyInt w64) 3 (vint w64 page) ∷ full loc (tyInt w64) 4 (vint w64 other) ∷ full loc (tyInt w64) 9 (vint w64 (h .running .slot % 8)) ∷ full loc L′.mir 10 (slot-val (slotAt (h .running .slot % 8))) ∷ full loc (tyInt w64) 11 (vint w64 (n % 8)) ∷ full loc L′.mir 12 (slot-val (slotAt (n % 8))) ∷ room loc (tyInt w64) 13 ∷ room loc (tyInt w64) 14 ∷ room loc mut-table-ty 15 ∷ room loc tyPtr 23 ∷ room loc tyPtr 24 ∷ room loc L′.mir 25 ∷ room loc tyPtr 26 ∷ room loc tyPtr 27 ∷ room loc shr-table-ty 28 ∷ room loc shr-table-ty 29 ∷ room loc P′.mir 30 ∷ room loc S′.mir 0 ∷ Γ
+      found i = around i (room loc (tyInt w64) 13) (room loc (tyInt w64) 14) (room loc shr-table-ty 28) (room loc shr-table-ty 29) (room loc P′.mir 30) (room loc S′.mir 0)
 
       pub finds : (q : After 𝓤 H) (Γ : List (Item 𝓤)) (i : Sweep) → Sq W (found i Γ) (runs C Λ En hand q) → Sq W (near (i .table) (i .test) (i .k) (later-on Γ)) (runs C Λ En tail q)
       finds q Γ i go =

@@ -177,9 +177,16 @@ module _ {M : Type 1} (𝓤 : URA M) (H : Heap 𝓤) (A : Atoms 𝓤) (W : Given
     onward = on 𝓤 H A W at-mem run b o C Λ Post τ loc
 
     module _ (y : Sight) (r : Heard) (is : Is R.the-row r (LL.vals R.the-type R′.the-laws r)) (memoryz bufferz : List ℕ) (memoryl : length memoryz ≡ length memory) (bufferl : length bufferz ≡ length buffer) (e : Said r memoryz bufferz) where
+      -- the slices, with what they come to; and the locals that no arm touches
+      abbrev slices : List (Item 𝓤) → List (Item 𝓤)
+      slices Γ = (‵ (flft κ1 q1) ⊛ ‵ (flft κ2 q2) ⊛ ‵ (flft κ3 q3) ⊛ ‵ ftrue) ∷ ‵ (finally u8 buffer-γ bufferz) ∷ ‵ (finally u8 memory-γ memoryz) ∷ ‵ (ShrSlice (named 1) κ1 u8 .own (record { ptr = (payload-b, payload-o); name = payload-γ; now = payload }) (sliceVal (payload-b, payload-o) (length payload) ∷ [])) ∷ Γ
+
+      abbrev still : List (Item 𝓤)
+      still = full loc (τ 2) 2 (LL.tuple-val E0.the-type E0′.the-laws (E0.the-type .to q)) ∷ full loc (τ 12) 12 (vint w64 (h .mode)) ∷ full loc (τ 6) 6 (LL.val X.the-type X′.the-laws (look-at 𝓤 H A W at-mem run b o h q q-is)) ∷ full loc (τ 13) 13 (vptr b o) ∷ full loc (τ 7) 7 (LL.tuple-val S.the-type S′.the-laws (S.the-type .to y)) ∷ dies loc (τ 27) 27 ∷ dies loc (τ 26) 26 ∷ dies loc (τ 25) 25 ∷ dies loc (τ 24) 24 ∷ dies loc (τ 23) 23 ∷ dies loc (τ 22) 22 ∷ dies loc (τ 21) 21 ∷ dies loc (τ 20) 20 ∷ dies loc (τ 19) 19 ∷ full loc (τ 18) 18 (sliceVal (buffer-b, buffer-o) (length buffer)) ∷ dies loc (τ 18) 18 ∷ full loc (τ 17) 17 (vptr buffer-b buffer-o) ∷ dies loc (τ 17) 17 ∷ full loc (τ 16) 16 (sliceVal (memory-b, memory-o) (length memory)) ∷ dies loc (τ 16) 16 ∷ full loc (τ 15) 15 (vptr memory-b memory-o) ∷ dies loc (τ 15) 15 ∷ full loc (τ 14) 14 (LL.tuple-val T.the-type T′.the-laws (T.the-type .to h)) ∷ dies loc (τ 14) 14 ∷ dies loc (τ 13) 13 ∷ dies loc (τ 12) 12 ∷ dies loc (τ 11) 11 ∷ dies loc (τ 10) 10 ∷ dies loc (τ 9) 9 ∷ dies loc (τ 8) 8 ∷ dies loc (τ 7) 7 ∷ dies loc (τ 6) 6 ∷ full loc (τ 5) 5 (sliceVal (buffer-b, buffer-o) (length buffer)) ∷ dies loc (τ 5) 5 ∷ full loc (τ 4) 4 (sliceVal (memory-b, memory-o) (length memory)) ∷ dies loc (τ 4) 4 ∷ full loc (τ 3) 3 (sliceVal (payload-b, payload-o) (length payload)) ∷ dies loc (τ 3) 3 ∷ dies loc (τ 2) 2 ∷ dies loc (τ 1) 1 ∷ room loc (τ 0) 0 ∷ dies loc (τ 0) 0 ∷ []
+
       -- what no arm needs
       abbrev far : List (Item 𝓤)
-      far = (‵ (flft κ1 q1) ⊛ ‵ (flft κ2 q2) ⊛ ‵ (flft κ3 q3) ⊛ ‵ ftrue) ∷ ‵ (finally u8 buffer-γ bufferz) ∷ ‵ (finally u8 memory-γ memoryz) ∷ ‵ (ShrSlice (named 1) κ1 u8 .own (record { ptr = (payload-b, payload-o); name = payload-γ; now = payload }) (sliceVal (payload-b, payload-o) (length payload) ∷ [])) ∷ ‵ (fobor κ0 q0 (Body (mem T.the-row) b o γ)) ∷ ‵ (fobs γ (T.the-row .coded .code h)) ∷ ‵ (fauth γ (T.the-row .coded .code h)) ∷ full loc (τ 2) 2 (LL.tuple-val E0.the-type E0′.the-laws (E0.the-type .to q)) ∷ full loc (τ 12) 12 (vint w64 (h .mode)) ∷ full loc (τ 6) 6 (LL.val X.the-type X′.the-laws (look-at 𝓤 H A W at-mem run b o h q q-is)) ∷ full loc (τ 13) 13 (vptr b o) ∷ full loc (τ 7) 7 (LL.tuple-val S.the-type S′.the-laws (S.the-type .to y)) ∷ dies loc (τ 27) 27 ∷ dies loc (τ 26) 26 ∷ dies loc (τ 25) 25 ∷ dies loc (τ 24) 24 ∷ dies loc (τ 23) 23 ∷ dies loc (τ 22) 22 ∷ dies loc (τ 21) 21 ∷ dies loc (τ 20) 20 ∷ dies loc (τ 19) 19 ∷ full loc (τ 18) 18 (sliceVal (buffer-b, buffer-o) (length buffer)) ∷ dies loc (τ 18) 18 ∷ full loc (τ 17) 17 (vptr buffer-b buffer-o) ∷ dies loc (τ 17) 17 ∷ full loc (τ 16) 16 (sliceVal (memory-b, memory-o) (length memory)) ∷ dies loc (τ 16) 16 ∷ full loc (τ 15) 15 (vptr memory-b memory-o) ∷ dies loc (τ 15) 15 ∷ full loc (τ 14) 14 (LL.tuple-val T.the-type T′.the-laws (T.the-type .to h)) ∷ dies loc (τ 14) 14 ∷ dies loc (τ 13) 13 ∷ dies loc (τ 12) 12 ∷ dies loc (τ 11) 11 ∷ dies loc (τ 10) 10 ∷ dies loc (τ 9) 9 ∷ dies loc (τ 8) 8 ∷ dies loc (τ 7) 7 ∷ dies loc (τ 6) 6 ∷ full loc (τ 5) 5 (sliceVal (buffer-b, buffer-o) (length buffer)) ∷ dies loc (τ 5) 5 ∷ full loc (τ 4) 4 (sliceVal (memory-b, memory-o) (length memory)) ∷ dies loc (τ 4) 4 ∷ full loc (τ 3) 3 (sliceVal (payload-b, payload-o) (length payload)) ∷ dies loc (τ 3) 3 ∷ dies loc (τ 2) 2 ∷ dies loc (τ 1) 1 ∷ room loc (τ 0) 0 ∷ dies loc (τ 0) 0 ∷ []
+      far = slices (‵ (fobor κ0 q0 (Body (mem T.the-row) b o γ)) ∷ ‵ (fobs γ (T.the-row .coded .code h)) ∷ ‵ (fauth γ (T.the-row .coded .code h)) ∷ still)
 
       -- what is had while the borrow is open, with the value v in the state's cell
       abbrev has : Val → List (Item 𝓤)
@@ -187,7 +194,7 @@ module _ {M : Type 1} (𝓤 : URA M) (H : Heap 𝓤) (A : Atoms 𝓤) (W : Given
 
       -- what is had once it is closed
       abbrev shut : Monitor → List (Item 𝓤)
-      shut t = ‵ (fobs γ (T.the-row .coded .code t)) ∷ ‵ (fbor κ0 (Body (mem T.the-row) b o γ)) ∷ ‵ (flft κ0 q0) ∷ full loc (τ 8) 8 (vstruct (answers r)) ∷ full loc (τ 1) 1 (vptr b o) ∷ room loc (τ 9) 9 ∷ room loc (τ 10) 10 ∷ room loc (τ 11) 11 ∷ room loc (τ 19) 19 ∷ room loc (τ 20) 20 ∷ room loc (τ 21) 21 ∷ room loc (τ 22) 22 ∷ room loc (τ 23) 23 ∷ room loc (τ 24) 24 ∷ room loc (τ 25) 25 ∷ room loc (τ 26) 26 ∷ room loc (τ 27) 27 ∷ (‵ (flft κ1 q1) ⊛ ‵ (flft κ2 q2) ⊛ ‵ (flft κ3 q3) ⊛ ‵ ftrue) ∷ ‵ (finally u8 buffer-γ bufferz) ∷ ‵ (finally u8 memory-γ memoryz) ∷ ‵ (ShrSlice (named 1) κ1 u8 .own (record { ptr = (payload-b, payload-o); name = payload-γ; now = payload }) (sliceVal (payload-b, payload-o) (length payload) ∷ [])) ∷ full loc (τ 2) 2 (LL.tuple-val E0.the-type E0′.the-laws (E0.the-type .to q)) ∷ full loc (τ 12) 12 (vint w64 (h .mode)) ∷ full loc (τ 6) 6 (LL.val X.the-type X′.the-laws (look-at 𝓤 H A W at-mem run b o h q q-is)) ∷ full loc (τ 13) 13 (vptr b o) ∷ full loc (τ 7) 7 (LL.tuple-val S.the-type S′.the-laws (S.the-type .to y)) ∷ dies loc (τ 27) 27 ∷ dies loc (τ 26) 26 ∷ dies loc (τ 25) 25 ∷ dies loc (τ 24) 24 ∷ dies loc (τ 23) 23 ∷ dies loc (τ 22) 22 ∷ dies loc (τ 21) 21 ∷ dies loc (τ 20) 20 ∷ dies loc (τ 19) 19 ∷ full loc (τ 18) 18 (sliceVal (buffer-b, buffer-o) (length buffer)) ∷ dies loc (τ 18) 18 ∷ full loc (τ 17) 17 (vptr buffer-b buffer-o) ∷ dies loc (τ 17) 17 ∷ full loc (τ 16) 16 (sliceVal (memory-b, memory-o) (length memory)) ∷ dies loc (τ 16) 16 ∷ full loc (τ 15) 15 (vptr memory-b memory-o) ∷ dies loc (τ 15) 15 ∷ full loc (τ 14) 14 (LL.tuple-val T.the-type T′.the-laws (T.the-type .to h)) ∷ dies loc (τ 14) 14 ∷ dies loc (τ 13) 13 ∷ dies loc (τ 12) 12 ∷ dies loc (τ 11) 11 ∷ dies loc (τ 10) 10 ∷ dies loc (τ 9) 9 ∷ dies loc (τ 8) 8 ∷ dies loc (τ 7) 7 ∷ dies loc (τ 6) 6 ∷ full loc (τ 5) 5 (sliceVal (buffer-b, buffer-o) (length buffer)) ∷ dies loc (τ 5) 5 ∷ full loc (τ 4) 4 (sliceVal (memory-b, memory-o) (length memory)) ∷ dies loc (τ 4) 4 ∷ full loc (τ 3) 3 (sliceVal (payload-b, payload-o) (length payload)) ∷ dies loc (τ 3) 3 ∷ dies loc (τ 2) 2 ∷ dies loc (τ 1) 1 ∷ room loc (τ 0) 0 ∷ dies loc (τ 0) 0 ∷ []
+      shut t = ‵ (fobs γ (T.the-row .coded .code t)) ∷ ‵ (fbor κ0 (Body (mem T.the-row) b o γ)) ∷ ‵ (flft κ0 q0) ∷ full loc (τ 8) 8 (vstruct (answers r)) ∷ full loc (τ 1) 1 (vptr b o) ∷ room loc (τ 9) 9 ∷ room loc (τ 10) 10 ∷ room loc (τ 11) 11 ∷ room loc (τ 19) 19 ∷ room loc (τ 20) 20 ∷ room loc (τ 21) 21 ∷ room loc (τ 22) 22 ∷ room loc (τ 23) 23 ∷ room loc (τ 24) 24 ∷ room loc (τ 25) 25 ∷ room loc (τ 26) 26 ∷ room loc (τ 27) 27 ∷ slices still
 
       -- the reply is read, and the locals are freed
       ends : (t : Monitor) → Left (r .reply) t memoryz bufferz → Sq W (shut t) (onward last)

@@ -31,7 +31,7 @@ use types.SemTy.{Body}
 use sound.WpLaws.{FmC, fmOf, WpFn-mono}
 use denote.RattleType.{owns}
 use denote.Laws.{Is, shows}
-use denote.Memory.{mem, cellAt}
+use denote.Memory.{mem}
 use denote.Plain.{uint-vals, uint-tells, uint-makes, uint-lawful}
 use denote.Builtin.{u8, usize}
 use denote.Array.{arrayVal, array-lawful}
@@ -70,11 +70,11 @@ use Rattle.twin.proofs.Monitor as T
 use Rattle.twin.proofs.Monitor.Laws as T′
 use Rattle.walks.proofs.Cells.{room, full, dies, raw-whole, typeOf, blockOf}
 use Rattle.host.proofs.Carried.{mode-fits}
-use Rattle.host.proofs.Lent.{spelled, vals, slot-val, slot-vals, running-val, slot-at, owner-is, pages-fits, kept-fits, running-is, zeros-is, zeros-val}
-use Rattle.host.proofs.Tables.{Table, table-vals, table-at, table-mut, table-shr, mut-table, shr-table, shr-table-ty, mut-table-ty}
+use Rattle.host.proofs.Lent.{spelled, vals, slot-vals, running-val, slot-at, owner-is, pages-fits, kept-fits, running-is, zeros-is, zeros-val}
+use Rattle.host.proofs.Tables.{Table, table-vals, table-mut, table-shr, mut-table, shr-table, shr-table-ty, mut-table-ty}
 use Rattle.host.proofs.Within.{owners-out, owners-back}
 use Rattle.host.proofs.Told.{owner-at, mode-at, running-at, pages-at, kept-at}
-use Rattle.host.proofs.Sweep.{more, turn, hand, tail, start, B, R, D, Sweep, Nearer, Nearer-wf, pg, kp, md, rn, begun-args, to-b, goes-b, handed-args, to-d, goes-d, En, near, later-on, body, found, finds, round}
+use Rattle.host.proofs.Sweep.{more, turn, hand, tail, start, B, R, D, Sweep, Nearer, Nearer-wf, pg, kp, md, rn, begun-args, to-b, goes-b, handed-args, to-d, goes-d, En, near-with, near, later-on, body, around, found, finds, round}
 use Rattle.wellformed.proofs.begun as bg
 use Rattle.wellformed.proofs.begun.Symbol as bg-def
 use Rattle.wellformed.proofs.begun.Symbol.{name as #bg}
@@ -140,8 +140,11 @@ module _ {M : Type 1} (𝓤 : URA M) (H : Heap 𝓤) (A : Atoms 𝓤) (W : Given
       far = ‵ (fobor κ0 q0 (Body (mem T.the-row) b o γ)) ∷ ‵ (fobs γ (T.the-row .coded .code h)) ∷ ‵ (fauth γ (T.the-row .coded .code h)) ∷ ‵ ftrue ∷ ‵ (owns (usize ∷ usize ∷ usize ∷ []) (n, (page, (other, tt))) (at .1)) ∷ dies loc P′.mir 30 ∷ dies loc shr-table-ty 29 ∷ dies loc shr-table-ty 28 ∷ dies loc tyPtr 27 ∷ dies loc tyPtr 26 ∷ dies loc L′.mir 25 ∷ dies loc tyPtr 24 ∷ dies loc tyPtr 23 ∷ dies loc mut-table-ty 22 ∷ dies loc shr-table-ty 21 ∷ dies loc L′.mir 20 ∷ dies loc tyPtr 19 ∷ dies loc tyPtr 18 ∷ dies loc (tyInt w64) 17 ∷ dies loc tyBool 16 ∷ dies loc mut-table-ty 15 ∷ dies loc (tyInt w64) 14 ∷ dies loc (tyInt w64) 13 ∷ dies loc L′.mir 12 ∷ dies loc (tyInt w64) 11 ∷ dies loc L′.mir 10 ∷ dies loc (tyInt w64) 9 ∷ dies loc L′.mir 8 ∷ dies loc (tyInt w64) 7 ∷ dies loc J′.mir 6 ∷ dies loc (tyArray (tyInt w8) 1024) 5 ∷ dies loc (tyInt w64) 4 ∷ dies loc (tyInt w64) 3 ∷ dies loc (tyInt w64) 2 ∷ dies loc τ1 1 ∷ dies loc S′.mir 0 ∷ []
 
       -- the borrow is closed, and the locals are freed
-      closed : (tb : List ℕ) (w : Test) (k : ℕ) (r : Sight) → r ≡ seenOf s n page other → Is S.the-row r (LL.vals S.the-type S′.the-laws r) → Sq W (table-at 𝓤 H A W (loc 5) 0 (tb) ∷ ‵ (cellAt fullShare (T.the-row .mir) (LL.val T.the-type T′.the-laws h ∷ []) b o) ∷ full loc τ1 1 (vptr b o) ∷ full loc J′.mir 6 (LL.val J.the-type J′.the-laws (w)) ∷ full loc (tyInt w64) 7 (vint w64 (k)) ∷ room loc L′.mir 8 ∷ room loc tyBool 16 ∷ room loc (tyInt w64) 17 ∷ room loc tyPtr 18 ∷ room loc tyPtr 19 ∷ room loc L′.mir 20 ∷ room loc shr-table-ty 21 ∷ room loc mut-table-ty 22 ∷ full loc (tyInt w64) 2 (vint w64 n) ∷ full loc (tyInt w64) 3 (vint w64 page) ∷ full loc (tyInt w64) 4 (vint w64 other) ∷ full loc (tyInt w64) 9 (vint w64 (h .running .slot % 8)) ∷ full loc L′.mir 10 (slot-val (slotAt (h .running .slot % 8))) ∷ full loc (tyInt w64) 11 (vint w64 (n % 8)) ∷ full loc L′.mir 12 (slot-val (slotAt (n % 8))) ∷ full loc (tyInt w64) 13 (vint w64 (h .mode)) ∷ full loc (tyInt w64) 14 (vint w64 (h .pages)) ∷ room loc mut-table-ty 15 ∷ room loc tyPtr 23 ∷ room loc tyPtr 24 ∷ room loc L′.mir 25 ∷ room loc tyPtr 26 ∷ room loc tyPtr 27 ∷ full loc shr-table-ty 28 (vptr (loc 5) 0) ∷ full loc shr-table-ty 29 (vptr b (o + 16)) ∷ full loc P′.mir 30 (running-val (h .running)) ∷ full loc S′.mir 0 (LL.val S.the-type S′.the-laws r) ∷ ‵ (fobor κ0 q0 (Body (mem T.the-row) b o γ)) ∷ ‵ (fobs γ (T.the-row .coded .code h)) ∷ ‵ (fauth γ (T.the-row .coded .code h)) ∷ ‵ ftrue ∷ ‵ (owns (usize ∷ usize ∷ usize ∷ []) (n, (page, (other, tt))) (at .1)) ∷ dies loc P′.mir 30 ∷ dies loc shr-table-ty 29 ∷ dies loc shr-table-ty 28 ∷ dies loc tyPtr 27 ∷ dies loc tyPtr 26 ∷ dies loc L′.mir 25 ∷ dies loc tyPtr 24 ∷ dies loc tyPtr 23 ∷ dies loc mut-table-ty 22 ∷ dies loc shr-table-ty 21 ∷ dies loc L′.mir 20 ∷ dies loc tyPtr 19 ∷ dies loc tyPtr 18 ∷ dies loc (tyInt w64) 17 ∷ dies loc tyBool 16 ∷ dies loc mut-table-ty 15 ∷ dies loc (tyInt w64) 14 ∷ dies loc (tyInt w64) 13 ∷ dies loc L′.mir 12 ∷ dies loc (tyInt w64) 11 ∷ dies loc L′.mir 10 ∷ dies loc (tyInt w64) 9 ∷ dies loc L′.mir 8 ∷ dies loc (tyInt w64) 7 ∷ dies loc J′.mir 6 ∷ dies loc (tyArray (tyInt w8) 1024) 5 ∷ dies loc (tyInt w64) 4 ∷ dies loc (tyInt w64) 3 ∷ dies loc (tyInt w64) 2 ∷ dies loc τ1 1 ∷ dies loc S′.mir 0 ∷ []) (runs C Λ (env C Λ loc) return (atRet (env C Λ loc) Post))
-      closed tb w k r so r-is =
+      closed : (i : Swept) (r : Sight) → r ≡ seenOf s n page other → Is S.the-row r (LL.vals S.the-type S′.the-laws r)
+          → Sq W (around 𝓤 H A W at-mem run b o h n page other was τ1 C Λ loc i (full loc (tyInt w64) 13 (vint w64 (h .mode))) (full loc (tyInt w64) 14 (vint w64 (h .pages))) (full loc shr-table-ty 28 (vptr (loc 5) 0)) (full loc shr-table-ty 29 (vptr b (o + 16))) (full loc P′.mir 30 (running-val (h .running))) (full loc S′.mir 0 (LL.val S.the-type S′.the-laws r)) far)
+          (runs C Λ (env C Λ loc) return (atRet (env C Λ loc) Post))
+      closed i r so r-is =
+          move ! (2 ∷ []) $
           owned ! T.the-row (Is T.the-row) ((LL.makes T.the-type T′.the-plain) 𝓤 H A) h (vals h) was $ move ! (2 ∷ 0 ∷ 33 ∷ 34 ∷ 35 ∷ []) $ closes ! tt T.the-row h (vals h) b o $
           returns ! (look ! 33 refl) $ forget ! 33 refl $ forget ! 4 refl $ forget ! 15 refl $ forget ! 16 refl $ forget ! 17 refl $ forget ! 3 refl $ forget ! 5 refl $ forget ! 6 refl $ forget ! 18 refl $ forget ! 19 refl $ forget ! 20 refl $ forget ! 21 refl $ forget ! 22 refl $ forget ! 23 refl $ forget ! 30 refl $ forget ! 31 refl $ forget ! 32 refl $
           move ! (33 ∷ 66 ∷ []) $ free1 ! $ move ! (4 ∷ 64 ∷ []) $ free1 ! $ move ! (14 ∷ 62 ∷ []) $ free1 ! $ move ! (14 ∷ 60 ∷ []) $ free1 ! $ move ! (14 ∷ 58 ∷ []) $ free1 ! $ move ! (3 ∷ 56 ∷ []) $ free1 ! $ move ! (3 ∷ 54 ∷ []) $ free1 ! $ move ! (3 ∷ 52 ∷ []) $ free1 ! $ move ! (3 ∷ 50 ∷ []) $ free1 ! $ move ! (10 ∷ 48 ∷ []) $ free1 ! $ move ! (10 ∷ 46 ∷ []) $ free1 ! $ move ! (10 ∷ 44 ∷ []) $ free1 ! $ move ! (10 ∷ 42 ∷ []) $ free1 ! $ move ! (10 ∷ 40 ∷ []) $ free1 ! $ move ! (10 ∷ 38 ∷ []) $ free1 ! $ move ! (10 ∷ 36 ∷ []) $ free1 ! $ move ! (3 ∷ 34 ∷ []) $ free1 ! $ move ! (3 ∷ 32 ∷ []) $ free1 ! $ move ! (3 ∷ 30 ∷ []) $ free1 ! $ move ! (3 ∷ 28 ∷ []) $ free1 ! $ move ! (3 ∷ 26 ∷ []) $ free1 ! $ move ! (3 ∷ 24 ∷ []) $ free1 ! $ move ! (3 ∷ 22 ∷ []) $ free1 ! $ move ! (3 ∷ 20 ∷ []) $ free1 ! $ move ! (3 ∷ 18 ∷ []) $ free1 ! $ move ! (3 ∷ 16 ∷ []) $ free1 ! $ move ! (3 ∷ 14 ∷ []) $ free1 ! $ move ! (3 ∷ 12 ∷ []) $ free1 ! $ move ! (3 ∷ 10 ∷ []) $ free1 ! $ move ! (3 ∷ 8 ∷ []) $ free1 ! $ move ! (3 ∷ 6 ∷ []) $ free1 ! $ free0 ! $ keep ! (0 ∷ 1 ∷ 2 ∷ []) $ by ! (exits r so r-is)
@@ -173,7 +176,7 @@ module _ {M : Type 1} (𝓤 : URA M) (H : Heap 𝓤) (A : Atoms 𝓤) (W : Given
           land ! (from ! (stop !)) (init ! 33 refl (LL.lawful S.the-type S′.the-laws 𝓤 H A W .typed r _ r-as .0)) $ rewrite ! 33 (λ (v : Val). full loc S′.mir 0 v) (ap only (LL.tells S.the-type S′.the-laws r _ r-as)) refl $
           split ! $ move ! (1 ∷ []) $ split ! $ move ! (0 ∷ 3 ∷ []) $ shr-table 𝓤 H A W b (o + 16) tt (h .owner) ν0 (move ! (0 ∷ 3 ∷ []) $ owners-back 𝓤 H A W b o (pg 𝓤 H A W at-mem run b o h n page other was) (kp 𝓤 H A W at-mem run b o h n page other was) (slot-vals (h .slots)) (md 𝓤 H A W at-mem run b o h n page other was) (rn 𝓤 H A W at-mem run b o h n page other was) (h .owner) (
           move ! (2 ∷ 3 ∷ []) $ shr-table 𝓤 H A W (loc 5) 0 tt tb ν1 (move ! (2 ∷ []) $ drop ! $
-          closed tb w (i .k) r (so ∙ going-seen s tb w (i .k) n page other (i .few) all-tried (i .going)) (spelled S.the-row (LL.vals S.the-type S′.the-laws) (LL.tells S.the-type S′.the-laws) r _ r-as))))))))))))
+          move ! (1 ∷ 2 ∷ []) $ closed i r (so ∙ going-seen s tb w (i .k) n page other (i .few) all-tried (i .going)) (spelled S.the-row (LL.vals S.the-type S′.the-laws) (LL.tells S.the-type S′.the-laws) r _ r-as))))))))))))
 
       -- a turn's postcondition: one slot more is tried, or the loop is left and the rest runs
       abbrev At : Swept → List (Item 𝓤)
@@ -201,7 +204,8 @@ module _ {M : Type 1} (𝓤 : URA M) (H : Heap 𝓤) (A : Atoms 𝓤) (W : Given
 
       begin : (loc : ℕ → ℕ) (q : After 𝓤 H) (Γ : List (Item 𝓤))
           → ((i : Swept) → Sq W (near 𝓤 H A W at-mem run b o h n page other was τ1 (𝓣 .C) (𝓣 .Λ) loc (i .table) (i .test) (i .k) (later-on 𝓤 H A W at-mem run b o h n page other was τ1 (𝓣 .C) (𝓣 .Λ) loc Γ)) (runs (𝓣 .C) (𝓣 .Λ) (env (𝓣 .C) (𝓣 .Λ) loc) (seq (block (loop turn)) tail) q))
-          → Sq W (‵ (cellAt fullShare (T.the-row .mir) (LL.val T.the-type T′.the-laws h ∷ []) b o) ∷ full loc τ1 1 (vptr b o) ∷ room loc (tyArray (tyInt w8) 1024) 5 ∷ room loc J′.mir 6 ∷ room loc (tyInt w64) 7 ∷ room loc L′.mir 8 ∷ room loc tyBool 16 ∷ room loc (tyInt w64) 17 ∷ room loc tyPtr 18 ∷ room loc tyPtr 19 ∷ room loc L′.mir 20 ∷ room loc shr-table-ty 21 ∷ room loc mut-table-ty 22 ∷ full loc (tyInt w64) 2 (vint w64 n) ∷ full loc (tyInt w64) 3 (vint w64 page) ∷ full loc (tyInt w64) 4 (vint w64 other) ∷ room loc (tyInt w64) 9 ∷ room loc L′.mir 10 ∷ room loc (tyInt w64) 11 ∷ room loc L′.mir 12 ∷ room loc (tyInt w64) 13 ∷ room loc (tyInt w64) 14 ∷ room loc mut-table-ty 15 ∷ room loc tyPtr 23 ∷ room loc tyPtr 24 ∷ room loc L′.mir 25 ∷ room loc tyPtr 26 ∷ room loc tyPtr 27 ∷ room loc shr-table-ty 28 ∷ room loc shr-table-ty 29 ∷ room loc P′.mir 30 ∷ room loc S′.mir 0 ∷ Γ) (runs (𝓣 .C) (𝓣 .Λ) (env (𝓣 .C) (𝓣 .Λ) loc) start q)
+          → Sq W (near-with 𝓤 H A W at-mem run b o h n page other was τ1 (𝓣 .C) (𝓣 .Λ) loc (room loc (tyArray (tyInt w8) 1024) 5) (room loc J′.mir 6) (room loc (tyInt w64) 7) (later-on 𝓤 H A W at-mem run b o h n page other was τ1 (𝓣 .C) (𝓣 .Λ) loc Γ))
+          (runs (𝓣 .C) (𝓣 .Λ) (env (𝓣 .C) (𝓣 .Λ) loc) start q)
       begin loc q Γ go =
           assigns ! (rep ! 1024 (lit ! tt)) (from ! (stop !)) (init ! 2 refl (subst (λ (l : List Val). T (hasTy (tyArray (tyInt w8) 1024) (arrayVal l)) × WT (arrayVal l)) (sym (zeros-val 1024)) (array-lawful 𝓤 H A W u8 (uint-lawful 𝓤 H A W w8) 1024 .typed zeros (table-vals zeros) zeros-so .0))) $
           rewrite ! 2 (λ (l : List Val). full loc (tyArray (tyInt w8) 1024) 5 (arrayVal l)) (zeros-val 1024) refl $
