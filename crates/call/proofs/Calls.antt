@@ -172,16 +172,16 @@ module _ (f : Face) (mark a i o : ℕ) where
   slot-callable l = first-at (callableAt f mark a) slotCount l
 
 module _ (f : Face) (k : ℕ) (x : Entry) (i o : ℕ) where
-  abbrev in-right : Bool
+  abbrev pub in-right : Bool
   in-right = unlooked (x .input) (inRange f i (x .input))
 
-  abbrev out-right : Bool
+  abbrev pub out-right : Bool
   out-right = unlooked (x .output) (inRange f o (x .output))
 
-  abbrev in-open : Bool
+  abbrev pub in-open : Bool
   in-open = unlooked (x .input) (isOpen f (pageOf i))
 
-  abbrev out-open : Bool
+  abbrev pub out-open : Bool
   out-open = unlooked (x .output) (isOpen f (pageOf o))
 
   pub in-4 : in-right ≡ false → callEntry f k x i o ≡ refuse 4 f

@@ -22,25 +22,36 @@ returns : tie.Need-returns
 returns c = let a = c .before .before .before .args in unseated (a .s) (a .c .turn) (a .c .fields) (a .c .digest) (ap (λ (p : Place). not (p .seats)) (sym (c .before .before .placing .ensures)) ∙ c .if1 .taken)
 
 mul-was : tie.Need-mul-was
-mul-was c = let a = c .before .before .before .args in let l : c .before .before .placing .result .number < 8 = subst (λ (p : Place). p .number < slotCount) (sym (c .before .before .placing .ensures)) (place-fits (a .s) (a .c .turn) (a .c .fields) (c .before .before .before .pre)) in omega (arith, l)
+mul-was c =
+    let z = c .before .before .before in
+    let a = z .args in let l : c .before .before .placing .result .number < 8 = subst (λ (p : Place). p .number < slotCount) (sym (c .before .before .placing .ensures)) (place-fits (a .s) (a .c .turn) (a .c .fields) (z .pre)) in omega (arith, l)
 
 element-copy-out-was : tie.Need-element-copy-out-was
-element-copy-out-was c = let a = c .before .before .before .args in let l : c .before .before .placing .result .number < 8 = subst (λ (p : Place). p .number < slotCount) (sym (c .before .before .placing .ensures)) (place-fits (a .s) (a .c .turn) (a .c .fields) (c .before .before .before .pre)) in omega (arith, l)
+element-copy-out-was c =
+    let z = c .before .before .before in
+    let a = z .args in let l : c .before .before .placing .result .number < 8 = subst (λ (p : Place). p .number < slotCount) (sym (c .before .before .placing .ensures)) (place-fits (a .s) (a .c .turn) (a .c .fields) (z .pre)) in omega (arith, l)
 
 seating-requires : tie.Need-seating-requires
-seating-requires c κs = let a = c .before .before .before .before .args in seats (a .s) (a .c .turn) (a .c .fields) (c .before .before .before .before .pre)
+seating-requires c κs =
+    let z = c .before .before .before .before in
+    let a = z .args in seats (a .s) (a .c .turn) (a .c .fields) (z .pre)
 
 paint-runs-requires : tie.Need-paint-runs-requires
 paint-runs-requires c κs =
-    let a = c .before .before .before .before .before .before .before .before .args in
+    let z = c .before .before .before .before .before .before .before .before in
+    let a = z .args in
     let e = c .before .before .before .seating .ensures ∙ ap (λ (p : Place). seating (getD (a .s .slots) (p .number) noSlot) (a .c .turn) (a .c .fields) (a .c .digest)) (c .before .before .before .before .before .before .before .placing .ensures) in
-    subst (λ (x : Seat). RunsFit (x .fields .r) (x .fields .runs)) (sym e) (seat-fits (a .s) (a .c .turn) (a .c .fields) (a .c .digest) (c .before .before .before .before .before .before .before .before .pre))
+    subst (λ (x : Seat). RunsFit (x .fields .r) (x .fields .runs)) (sym e) (seat-fits (a .s) (a .c .turn) (a .c .fields) (a .c .digest) (z .pre))
 
 mul-slot : tie.Need-mul-slot
-mul-slot c = let a = c .before .before .before .before .before .before .before .before .before .args in let l : c .before .before .before .before .before .before .before .before .placing .result .number < 8 = subst (λ (p : Place). p .number < slotCount) (sym (c .before .before .before .before .before .before .before .before .placing .ensures)) (place-fits (a .s) (a .c .turn) (a .c .fields) (c .before .before .before .before .before .before .before .before .before .pre)) in omega (arith, l)
+mul-slot c =
+    let z = c .before .before .before .before .before .before .before .before .before in
+    let a = z .args in let l : c .before .before .before .before .before .before .before .before .placing .result .number < 8 = subst (λ (p : Place). p .number < slotCount) (sym (c .before .before .before .before .before .before .before .before .placing .ensures)) (place-fits (a .s) (a .c .turn) (a .c .fields) (z .pre)) in omega (arith, l)
 
 element-set-from-slot : tie.Need-element-set-from-slot
-element-set-from-slot c = let a = c .before .before .before .before .before .before .before .before .before .args in let l : c .before .before .before .before .before .before .before .before .placing .result .number < 8 = subst (λ (p : Place). p .number < slotCount) (sym (c .before .before .before .before .before .before .before .before .placing .ensures)) (place-fits (a .s) (a .c .turn) (a .c .fields) (c .before .before .before .before .before .before .before .before .before .pre)) in omega (arith, l)
+element-set-from-slot c =
+    let z = c .before .before .before .before .before .before .before .before .before in
+    let a = z .args in let l : c .before .before .before .before .before .before .before .before .placing .result .number < 8 = subst (λ (p : Place). p .number < slotCount) (sym (c .before .before .before .before .before .before .before .before .placing .ensures)) (place-fits (a .s) (a .c .turn) (a .c .fields) (z .pre)) in omega (arith, l)
 
 returns-2 : tie.Need-returns-2
 returns-2 c =

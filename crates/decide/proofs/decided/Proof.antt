@@ -10,20 +10,24 @@ use Rattle.decide.proofs.decided.Tie as tie
 
 returns : tie.Need-returns
 returns c =
-    let a = c .before .before .before .before .before .before .args in
+    let z = c .before .before .before .before .before .before in
+    let a = z .args in
     let s = a .s in
-    refuses-1 s (state-shape s _ (c .before .before .before .before .before .before .good .1 .1 .1 .0) .slots-long) (a .payload .now) (a .buffer .now) (a .memory .now) (a .event) _ (c .kept .ensures)
-    (not-right s _ (sym (right-as s (a .event) (a .x) (c .before .before .before .before .before .before .pre)) ∙ not-true _ (c .before .if1 .taken)))
+    refuses-1 s (state-shape s _ (z .good .1 .1 .1 .0) .slots-long) (a .payload .now) (a .buffer .now) (a .memory .now) (a .event) _ (c .kept .ensures)
+    (not-right s _ (sym (right-as s (a .event) (a .x) (z .pre)) ∙ not-true _ (c .before .if1 .taken)))
 
 start-of-requires : tie.Need-start-of-requires
-start-of-requires c κs = let a = c .before .before .before .before .before .args in few-pages (a .s) (sym (right-as (a .s) (a .event) (a .x) (c .before .before .before .before .before .pre)) ∙ not-false _ (c .if1 .left))
+start-of-requires c κs =
+    let z = c .before .before .before .before .before in
+    let a = z .args in few-pages (a .s) (sym (right-as (a .s) (a .event) (a .x) (z .pre)) ∙ not-false _ (c .if1 .left))
 
 returns-2 : tie.Need-returns-2
 returns-2 c =
-    let a = c .before .before .before .before .before .before .before .before .args in
+    let z = c .before .before .before .before .before .before .before .before in
+    let a = z .args in
     let s = a .s in
-    refuses-1 s (state-shape s _ (c .before .before .before .before .before .before .before .before .good .1 .1 .1 .0) .slots-long) (a .payload .now) (a .buffer .now) (a .memory .now) (a .event) _ (c .kept2 .ensures)
-    (not-long s _ (sym (right-as s (a .event) (a .x) (c .before .before .before .before .before .before .before .before .pre)) ∙ not-false _ (c .before .before .before .if1 .left)) (λ e. c .before .if2 .taken (e ∙ sym (c .before .before .start-of .ensures))))
+    refuses-1 s (state-shape s _ (z .good .1 .1 .1 .0) .slots-long) (a .payload .now) (a .buffer .now) (a .memory .now) (a .event) _ (c .kept2 .ensures)
+    (not-long s _ (sym (right-as s (a .event) (a .x) (z .pre)) ∙ not-false _ (c .before .before .before .if1 .left)) (λ e. c .before .if2 .taken (e ∙ sym (c .before .before .start-of .ensures))))
 
 returns-3 : tie.Need-returns-3
 returns-3 c =
@@ -36,10 +40,11 @@ returns-3 c =
 
 dispatch-requires : tie.Need-dispatch-requires
 dispatch-requires c κs =
-    let a = c .before .before .before .before .before .before .before .before .before .before .before .args in
+    let z = c .before .before .before .before .before .before .before .before .before .before .before in
+    let a = z .args in
     let s = a .s in
-    let r = sym (right-as s (a .event) (a .x) (c .before .before .before .before .before .before .before .before .before .before .before .pre)) ∙ not-false _ (c .before .before .before .before .before .before .if1 .left) in
-    (well s _ r (c .before .before .before .before .if2 .left ∙ c .before .before .before .before .before .start-of .ensures), (sym (c .before .before .before .allowed .ensures) ∙ not-false _ (c .before .before .if3 .left), sees s (a .event) (a .x) (c .before .before .before .before .before .before .before .before .before .before .before .pre) r))
+    let r = sym (right-as s (a .event) (a .x) (z .pre)) ∙ not-false _ (c .before .before .before .before .before .before .if1 .left) in
+    (well s _ r (c .before .before .before .before .if2 .left ∙ c .before .before .before .before .before .start-of .ensures), (sym (c .before .before .before .allowed .ensures) ∙ not-false _ (c .before .before .if3 .left), sees s (a .event) (a .x) (z .pre) r))
 
 returns-4 : tie.Need-returns-4
 returns-4 c =

@@ -15,88 +15,120 @@ register-requires c κs = c .before .before .before .before .before .before .bef
 
 unregister-requires : tie.Need-unregister-requires
 unregister-requires c κs =
-    let a = c .before .before .before .before .before .before .before .before .before .args in
-    (c .before .before .before .before .before .before .before .before .before .pre .0, slot-below (a .s) (a .x) _ (at-slot (a .s) (a .event) (a .x) (c .before .before .before .before .before .before .before .before .before .pre .1 .1) _ (c .before .before .event2 .given .1)))
+    let z = c .before .before .before .before .before .before .before .before .before in
+    let a = z .args in
+    (z .pre .0, slot-below (a .s) (a .x) _ (at-slot (a .s) (a .event) (a .x) (z .pre .1 .1) _ (c .before .before .event2 .given .1)))
 
 call-requires : tie.Need-call-requires
 call-requires c κs =
-    let a = c .before .before .before .before .before .before .before .before .before .args in
-    (c .before .before .before .before .before .before .before .before .before .pre .0, (at-page (a .s) (a .event) (a .x) (c .before .before .before .before .before .before .before .before .before .pre .1 .1) _ (c .before .before .event3 .given .1), at-other (a .s) (a .event) (a .x) (c .before .before .before .before .before .before .before .before .before .pre .1 .1) _ (c .before .before .event3 .given .1)))
+    let z = c .before .before .before .before .before .before .before .before .before in
+    let a = z .args in
+    (z .pre .0, (at-page (a .s) (a .event) (a .x) (z .pre .1 .1) _ (c .before .before .event3 .given .1), at-other (a .s) (a .event) (a .x) (z .pre .1 .1) _ (c .before .before .event3 .given .1)))
 
 jump-requires : tie.Need-jump-requires
 jump-requires c κs =
-    let a = c .before .before .before .before .before .before .before .before .before .args in
-    (c .before .before .before .before .before .before .before .before .before .pre .0, (at-page (a .s) (a .event) (a .x) (c .before .before .before .before .before .before .before .before .before .pre .1 .1) _ (c .before .before .event4 .given .1), slot-runs (a .s) (a .x) (well-state (a .s) _ (c .before .before .before .before .before .before .before .before .before .pre .0)) (at-slot (a .s) (a .event) (a .x) (c .before .before .before .before .before .before .before .before .before .pre .1 .1) _ (c .before .before .event4 .given .1))))
+    let z = c .before .before .before .before .before .before .before .before .before in
+    let a = z .args in
+    (z .pre .0, (at-page (a .s) (a .event) (a .x) (z .pre .1 .1) _ (c .before .before .event4 .given .1), slot-runs (a .s) (a .x) (well-state (a .s) _ (z .pre .0)) (at-slot (a .s) (a .event) (a .x) (z .pre .1 .1) _ (c .before .before .event4 .given .1))))
 
 read-requires : tie.Need-read-requires
 read-requires c κs =
-    let a = c .before .before .before .before .before .before .before .before .before .before .args in
-    (c .before .before .before .before .before .before .before .before .before .before .pre .0, at-page (a .s) (a .event) (a .x) (c .before .before .before .before .before .before .before .before .before .before .pre .1 .1) _ (c .before .before .before .event5 .given .1))
+    let z = c .before .before .before .before .before .before .before .before .before .before in
+    let a = z .args in
+    (z .pre .0, at-page (a .s) (a .event) (a .x) (z .pre .1 .1) _ (c .before .before .before .event5 .given .1))
 
 write-requires : tie.Need-write-requires
 write-requires c κs =
-    let a = c .before .before .before .before .before .before .before .before .before .args in
-    (c .before .before .before .before .before .before .before .before .before .pre .0, (at-page (a .s) (a .event) (a .x) (c .before .before .before .before .before .before .before .before .before .pre .1 .1) _ (c .before .before .event6 .given .1), slot-runs (a .s) (a .x) (well-state (a .s) _ (c .before .before .before .before .before .before .before .before .before .pre .0)) (at-slot (a .s) (a .event) (a .x) (c .before .before .before .before .before .before .before .before .before .pre .1 .1) _ (c .before .before .event6 .given .1))))
+    let z = c .before .before .before .before .before .before .before .before .before in
+    let a = z .args in
+    (z .pre .0, (at-page (a .s) (a .event) (a .x) (z .pre .1 .1) _ (c .before .before .event6 .given .1), slot-runs (a .s) (a .x) (well-state (a .s) _ (z .pre .0)) (at-slot (a .s) (a .event) (a .x) (z .pre .1 .1) _ (c .before .before .event6 .given .1))))
 
 device-read-requires : tie.Need-device-read-requires
 device-read-requires c κs =
-    let a = c .before .before .before .before .before .before .before .before .before .before .args in
-    (c .before .before .before .before .before .before .before .before .before .before .pre .0, at-page (a .s) (a .event) (a .x) (c .before .before .before .before .before .before .before .before .before .before .pre .1 .1) _ (c .before .before .before .event7 .given .1))
+    let z = c .before .before .before .before .before .before .before .before .before .before in
+    let a = z .args in
+    (z .pre .0, at-page (a .s) (a .event) (a .x) (z .pre .1 .1) _ (c .before .before .before .event7 .given .1))
 
 device-write-requires : tie.Need-device-write-requires
 device-write-requires c κs =
-    let a = c .before .before .before .before .before .before .before .before .before .args in
-    (c .before .before .before .before .before .before .before .before .before .pre .0, at-page (a .s) (a .event) (a .x) (c .before .before .before .before .before .before .before .before .before .pre .1 .1) _ (c .before .before .event8 .given .1))
+    let z = c .before .before .before .before .before .before .before .before .before in
+    let a = z .args in
+    (z .pre .0, at-page (a .s) (a .event) (a .x) (z .pre .1 .1) _ (c .before .before .event8 .given .1))
 
 return--requires : tie.Need-return--requires
 return--requires c κs =
-    let a = c .before .before .before .before .before .before .before .before .args in
-    let m = mode-of (a .s .mode) _ (c .before .before .before .before .slot-in .ensures) (ap (allowed (a .s .mode)) (sym (c .before .enum-told .given .1)) ∙ c .before .before .before .before .before .before .before .before .pre .1 .0) in
-    (c .before .before .before .before .before .before .before .before .pre .0, (m, slot-runs (a .s) (a .x) (well-state (a .s) _ (c .before .before .before .before .before .before .before .before .pre .0)) (at-slot (a .s) (a .event) (a .x) (c .before .before .before .before .before .before .before .before .pre .1 .1) _ (c .before .enum-told .given .1)) _ m))
+    let z = c .before .before .before .before .before .before .before .before in
+    let a = z .args in
+    let m = mode-of (a .s .mode) _ (c .before .before .before .before .slot-in .ensures) (ap (allowed (a .s .mode)) (sym (c .before .enum-told .given .1)) ∙ z .pre .1 .0) in
+    (z .pre .0, (m, slot-runs (a .s) (a .x) (well-state (a .s) _ (z .pre .0)) (at-slot (a .s) (a .event) (a .x) (z .pre .1 .1) _ (c .before .enum-told .given .1)) _ m))
 
 extend-requires : tie.Need-extend-requires
 extend-requires c κs =
-    let a = c .before .before .before .before .before .before .before .before .before .args in
-    (c .before .before .before .before .before .before .before .before .before .pre .0, (mode-below (a .s) (well-state (a .s) _ (c .before .before .before .before .before .before .before .before .before .pre .0)) _ (mode-of (a .s .mode) _ (c .before .before .before .before .before .slot-in .ensures) (ap (allowed (a .s .mode)) (sym (c .before .before .event9 .given .1)) ∙ c .before .before .before .before .before .before .before .before .before .pre .1 .0)), at-page (a .s) (a .event) (a .x) (c .before .before .before .before .before .before .before .before .before .pre .1 .1) _ (c .before .before .event9 .given .1)))
+    let z = c .before .before .before .before .before .before .before .before .before in
+    let a = z .args in
+    (z .pre .0, (mode-below (a .s) (well-state (a .s) _ (z .pre .0)) _ (mode-of (a .s .mode) _ (c .before .before .before .before .before .slot-in .ensures) (ap (allowed (a .s .mode)) (sym (c .before .before .event9 .given .1)) ∙ z .pre .1 .0)), at-page (a .s) (a .event) (a .x) (z .pre .1 .1) _ (c .before .before .event9 .given .1)))
 
 pcr-read-requires : tie.Need-pcr-read-requires
 pcr-read-requires c κs =
-    let a = c .before .before .before .before .before .before .before .before .before .args in
-    let m = mode-of (a .s .mode) _ (c .before .before .before .before .before .slot-in .ensures) (ap (allowed (a .s .mode)) (sym (c .before .before .event10 .given .1)) ∙ c .before .before .before .before .before .before .before .before .before .pre .1 .0) in
-    (mode-below (a .s) (well-state (a .s) _ (c .before .before .before .before .before .before .before .before .before .pre .0)) _ m, slot-runs (a .s) (a .x) (well-state (a .s) _ (c .before .before .before .before .before .before .before .before .before .pre .0)) (at-slot (a .s) (a .event) (a .x) (c .before .before .before .before .before .before .before .before .before .pre .1 .1) _ (c .before .before .event10 .given .1)) _ m)
+    let z = c .before .before .before .before .before .before .before .before .before in
+    let a = z .args in
+    let m = mode-of (a .s .mode) _ (c .before .before .before .before .before .slot-in .ensures) (ap (allowed (a .s .mode)) (sym (c .before .before .event10 .given .1)) ∙ z .pre .1 .0) in
+    (mode-below (a .s) (well-state (a .s) _ (z .pre .0)) _ m, slot-runs (a .s) (a .x) (well-state (a .s) _ (z .pre .0)) (at-slot (a .s) (a .event) (a .x) (z .pre .1 .1) _ (c .before .before .event10 .given .1)) _ m)
 
 returns : tie.Need-returns
-returns c = let a = c .before .before .before .before .before .before .before .before .before .before .args in register-end (a .s) (state-shape (a .s) _ (c .before .before .before .before .before .before .before .before .before .before .good .1 .1 .0) .slots-long) (a .payload .now) (a .buffer .now) (a .memory .now) (a .event) (c .before .before .before .before .before .before .before .before .before .before .pre .1 .0) _ (c .before .before .before .event .given .1) (c .register .ensures)
+returns c =
+    let z = c .before .before .before .before .before .before .before .before .before .before in
+    let a = z .args in register-end (a .s) (state-shape (a .s) _ (z .good .1 .1 .0) .slots-long) (a .payload .now) (a .buffer .now) (a .memory .now) (a .event) (z .pre .1 .0) _ (c .before .before .before .event .given .1) (c .register .ensures)
 
 returns-2 : tie.Need-returns-2
-returns-2 c = let a = c .before .before .before .before .before .before .before .before .before .before .before .before .args in unregister-end (a .s) (state-shape (a .s) _ (c .before .before .before .before .before .before .before .before .before .before .before .before .good .1 .1 .0) .slots-long) (a .payload .now) (a .buffer .now) (a .memory .now) (a .event) (c .before .before .before .before .before .before .before .before .before .before .before .before .pre .1 .0) _ _ (c .before .before .before .before .before .event2 .given .1) (c .before .before .unregister .ensures)
+returns-2 c =
+    let z = c .before .before .before .before .before .before .before .before .before .before .before .before in
+    let a = z .args in unregister-end (a .s) (state-shape (a .s) _ (z .good .1 .1 .0) .slots-long) (a .payload .now) (a .buffer .now) (a .memory .now) (a .event) (z .pre .1 .0) _ _ (c .before .before .before .before .before .event2 .given .1) (c .before .before .unregister .ensures)
 
 returns-3 : tie.Need-returns-3
-returns-3 c = let a = c .before .before .before .before .before .before .before .before .before .before .before .before .args in call-end (a .s) (state-shape (a .s) _ (c .before .before .before .before .before .before .before .before .before .before .before .before .good .1 .1 .0) .slots-long) (a .payload .now) (a .buffer .now) (a .memory .now) (a .event) (c .before .before .before .before .before .before .before .before .before .before .before .before .pre .1 .0) _ _ _ _ (c .before .before .before .before .before .event3 .given .1) (c .before .before .call .ensures)
+returns-3 c =
+    let z = c .before .before .before .before .before .before .before .before .before .before .before .before in
+    let a = z .args in call-end (a .s) (state-shape (a .s) _ (z .good .1 .1 .0) .slots-long) (a .payload .now) (a .buffer .now) (a .memory .now) (a .event) (z .pre .1 .0) _ _ _ _ (c .before .before .before .before .before .event3 .given .1) (c .before .before .call .ensures)
 
 returns-4 : tie.Need-returns-4
-returns-4 c = let a = c .before .before .before .before .before .before .before .before .before .before .before .args in return-end (a .s) (state-shape (a .s) _ (c .before .before .before .before .before .before .before .before .before .before .before .good .1 .1 .0) .slots-long) (a .payload .now) (a .buffer .now) (a .memory .now) (a .event) (c .before .before .before .before .before .before .before .before .before .before .before .pre .1 .0) _ (c .before .before .before .before .before .before .before .slot-in .ensures) (c .before .before .before .before .enum-told .given .1) (c .before .before .return- .ensures)
+returns-4 c =
+    let z = c .before .before .before .before .before .before .before .before .before .before .before in
+    let a = z .args in return-end (a .s) (state-shape (a .s) _ (z .good .1 .1 .0) .slots-long) (a .payload .now) (a .buffer .now) (a .memory .now) (a .event) (z .pre .1 .0) _ (c .before .before .before .before .before .before .before .slot-in .ensures) (c .before .before .before .before .enum-told .given .1) (c .before .before .return- .ensures)
 
 returns-5 : tie.Need-returns-5
-returns-5 c = let a = c .before .before .before .before .before .before .before .before .before .before .before .before .args in jump-end (a .s) (state-shape (a .s) _ (c .before .before .before .before .before .before .before .before .before .before .before .before .good .1 .1 .0) .slots-long) (a .payload .now) (a .buffer .now) (a .memory .now) (a .event) (c .before .before .before .before .before .before .before .before .before .before .before .before .pre .1 .0) _ (c .before .before .before .before .before .event4 .given .1) (c .before .before .jump .ensures)
+returns-5 c =
+    let z = c .before .before .before .before .before .before .before .before .before .before .before .before in
+    let a = z .args in jump-end (a .s) (state-shape (a .s) _ (z .good .1 .1 .0) .slots-long) (a .payload .now) (a .buffer .now) (a .memory .now) (a .event) (z .pre .1 .0) _ (c .before .before .before .before .before .event4 .given .1) (c .before .before .jump .ensures)
 
 returns-6 : tie.Need-returns-6
-returns-6 c = let a = c .before .before .before .before .before .before .before .before .before .before .before .before .before .before .args in read-end (a .s) (state-shape (a .s) _ (c .before .before .before .before .before .before .before .before .before .before .before .before .before .before .good .1 .1 .0) .slots-long) (a .payload .now) (a .buffer .now) (a .memory .now) (a .event) (c .before .before .before .before .before .before .before .before .before .before .before .before .before .before .pre .1 .0) _ (c .kept .ensures) _ _ (c .before .before .before .before .before .before .before .event5 .given .1) (c .before .before .before .read .ensures)
+returns-6 c =
+    let z = c .before .before .before .before .before .before .before .before .before .before .before .before .before .before in
+    let a = z .args in read-end (a .s) (state-shape (a .s) _ (z .good .1 .1 .0) .slots-long) (a .payload .now) (a .buffer .now) (a .memory .now) (a .event) (z .pre .1 .0) _ (c .kept .ensures) _ _ (c .before .before .before .before .before .before .before .event5 .given .1) (c .before .before .before .read .ensures)
 
 returns-7 : tie.Need-returns-7
-returns-7 c = let a = c .before .before .before .before .before .before .before .before .before .before .before .before .before .args in write-end (a .s) (state-shape (a .s) _ (c .before .before .before .before .before .before .before .before .before .before .before .before .before .good .1 .1 .0) .slots-long) (a .payload .now) (a .buffer .now) (a .memory .now) (a .event) (c .before .before .before .before .before .before .before .before .before .before .before .before .before .pre .1 .0) _ (c .kept2 .ensures) _ (c .before .before .before .before .before .before .event6 .given .1) (c .before .before .before .write .ensures)
+returns-7 c =
+    let z = c .before .before .before .before .before .before .before .before .before .before .before .before .before in
+    let a = z .args in write-end (a .s) (state-shape (a .s) _ (z .good .1 .1 .0) .slots-long) (a .payload .now) (a .buffer .now) (a .memory .now) (a .event) (z .pre .1 .0) _ (c .kept2 .ensures) _ (c .before .before .before .before .before .before .event6 .given .1) (c .before .before .before .write .ensures)
 
 returns-8 : tie.Need-returns-8
-returns-8 c = let a = c .before .before .before .before .before .before .before .before .before .before .before .before .before .before .args in device-read-end (a .s) (state-shape (a .s) _ (c .before .before .before .before .before .before .before .before .before .before .before .before .before .before .good .1 .1 .0) .slots-long) (a .payload .now) (a .buffer .now) (a .memory .now) (a .event) (c .before .before .before .before .before .before .before .before .before .before .before .before .before .before .pre .1 .0) _ (c .kept3 .ensures) _ _ (c .before .before .before .before .before .before .before .event7 .given .1) (c .before .before .before .device-read .ensures)
+returns-8 c =
+    let z = c .before .before .before .before .before .before .before .before .before .before .before .before .before .before in
+    let a = z .args in device-read-end (a .s) (state-shape (a .s) _ (z .good .1 .1 .0) .slots-long) (a .payload .now) (a .buffer .now) (a .memory .now) (a .event) (z .pre .1 .0) _ (c .kept3 .ensures) _ _ (c .before .before .before .before .before .before .before .event7 .given .1) (c .before .before .before .device-read .ensures)
 
 returns-9 : tie.Need-returns-9
-returns-9 c = let a = c .before .before .before .before .before .before .before .before .before .before .before .before .before .args in device-write-end (a .s) (state-shape (a .s) _ (c .before .before .before .before .before .before .before .before .before .before .before .before .before .good .1 .1 .0) .slots-long) (a .payload .now) (a .buffer .now) (a .memory .now) (a .event) (c .before .before .before .before .before .before .before .before .before .before .before .before .before .pre .1 .0) _ (c .kept4 .ensures) _ (c .before .before .before .before .before .before .event8 .given .1) (c .before .before .before .device-write .ensures)
+returns-9 c =
+    let z = c .before .before .before .before .before .before .before .before .before .before .before .before .before in
+    let a = z .args in device-write-end (a .s) (state-shape (a .s) _ (z .good .1 .1 .0) .slots-long) (a .payload .now) (a .buffer .now) (a .memory .now) (a .event) (z .pre .1 .0) _ (c .kept4 .ensures) _ (c .before .before .before .before .before .before .event8 .given .1) (c .before .before .before .device-write .ensures)
 
 returns-10 : tie.Need-returns-10
-returns-10 c = let a = c .before .before .before .before .before .before .before .before .before .before .args in extend-end (a .s) (state-shape (a .s) _ (c .before .before .before .before .before .before .before .before .before .before .good .1 .1 .0) .slots-long) (a .payload .now) (a .buffer .now) (a .memory .now) (a .event) (c .before .before .before .before .before .before .before .before .before .before .pre .1 .0) _ (c .before .before .before .before .before .before .slot-in .ensures) _ _ _ _ (c .before .before .before .event9 .given .1) (c .extend .ensures)
+returns-10 c =
+    let z = c .before .before .before .before .before .before .before .before .before .before in
+    let a = z .args in extend-end (a .s) (state-shape (a .s) _ (z .good .1 .1 .0) .slots-long) (a .payload .now) (a .buffer .now) (a .memory .now) (a .event) (z .pre .1 .0) _ (c .before .before .before .before .before .before .slot-in .ensures) _ _ _ _ (c .before .before .before .event9 .given .1) (c .extend .ensures)
 
 returns-11 : tie.Need-returns-11
-returns-11 c = let a = c .before .before .before .before .before .before .before .before .before .before .before .before .before .args in pcr-end (a .s) (state-shape (a .s) _ (c .before .before .before .before .before .before .before .before .before .before .before .before .before .good .1 .1 .0) .slots-long) (a .payload .now) (a .buffer .now) (a .memory .now) (a .event) (c .before .before .before .before .before .before .before .before .before .before .before .before .before .pre .1 .0) _ (c .kept5 .ensures) _ (c .before .before .before .before .before .before .before .before .before .slot-in .ensures) _ (c .before .before .before .before .before .before .event10 .given .1) (c .before .before .before .pcr-read .ensures (a .memory .now))
+returns-11 c =
+    let z = c .before .before .before .before .before .before .before .before .before .before .before .before .before in
+    let a = z .args in pcr-end (a .s) (state-shape (a .s) _ (z .good .1 .1 .0) .slots-long) (a .payload .now) (a .buffer .now) (a .memory .now) (a .event) (z .pre .1 .0) _ (c .kept5 .ensures) _ (c .before .before .before .before .before .before .before .before .before .slot-in .ensures) _ (c .before .before .before .before .before .before .event10 .given .1) (c .before .before .before .pcr-read .ensures (a .memory .now))
 
 slot-in-requires : tie.Need-slot-in-requires
 slot-in-requires c κs = search needs

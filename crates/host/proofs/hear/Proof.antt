@@ -16,7 +16,9 @@ opened-requires : tie.Need-opened-requires
 opened-requires c κs = search needs
 
 decided-requires : tie.Need-decided-requires
-decided-requires c κs = let a = c .before .before .before .before .before .before .before .before .before .before .args in c .before .before .before .before .before .before .before .before .before .before .pre ∙ sym (looked-so (a .m) (a .q) _ _ (sym (c .before .before .before .before .a .given .1) ∙ c .before .before .before .before .before .before .event-asked .ensures) (c .before .before .opened .ensures))
+decided-requires c κs =
+    let z = c .before .before .before .before .before .before .before .before .before .before in
+    let a = z .args in z .pre ∙ sym (looked-so (a .m) (a .q) _ _ (sym (c .before .before .before .before .a .given .1) ∙ c .before .before .before .before .before .before .event-asked .ensures) (c .before .before .opened .ensures))
 
 parts-requires : tie.Need-parts-requires
 parts-requires c κs = search needs
@@ -35,9 +37,10 @@ same-length-2 c = search needs
 
 returns : tie.Need-returns
 returns c =
-    let a = c .before .before .before .before .before .before .before .before .before .before .before .before .before .before .before .before .args in
+    let z = c .before .before .before .before .before .before .before .before .before .before .before .before .before .before .before .before in
+    let a = z .args in
     carried (a .m) (a .q) (a .payload .now) (a .memory .now) (a .buffer .now) (c .before .before .before .before .before .decided .last .1 .1 .1 .1 .0) (c .before .before .before .before .before .decided .last .1 .1 .1 .1 .1 .0) (c .before .before .before .before .before .before .before .before .before .before .a .given .0 .0) (c .before .before .before .before .before .before .before .before .opened .result) (c .before .before .before .before .before .decided .result) (c .parts .result)
-    (mode-fits (a .m) _ (c .before .before .before .before .before .before .before .before .before .before .before .before .before .before .before .before .good .0)) (owner-long (a .m) _ (c .before .before .before .before .before .before .before .before .before .before .before .before .before .before .before .before .good .0)) (sym (c .before .before .before .before .before .before .before .before .before .before .a .given .1) ∙ c .before .before .before .before .before .before .before .before .before .before .before .before .event-asked .ensures) (c .before .before .before .before .before .before .before .before .opened .ensures) (c .before .before .before .before .before .decided .ensures) (c .parts .ensures)
+    (mode-fits (a .m) _ (z .good .0)) (owner-long (a .m) _ (z .good .0)) (sym (c .before .before .before .before .before .before .before .before .before .before .a .given .1) ∙ c .before .before .before .before .before .before .before .before .before .before .before .before .event-asked .ensures) (c .before .before .before .before .before .before .before .before .opened .ensures) (c .before .before .before .before .before .decided .ensures) (c .parts .ensures)
 
 returns-2 : tie.Need-returns-2
 returns-2 c =

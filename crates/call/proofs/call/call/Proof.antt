@@ -1,5 +1,5 @@
 use Rattle.fields.specs.declared.Entry.{Entry}
-use Rattle.call.proofs.Calls.{call-8, call-on, sought-k, sought-slot, entry-by, found-entry, found-some}
+use Rattle.call.proofs.Calls.{Named, call-8, call-on, sought-k, sought-slot, entry-by, found-entry, found-some}
 use Rattle.change.proofs.Settled.{to-plan, still-settles}
 use Rattle.wellformed.proofs.States.{well-state}
 use Rattle.rules.specs.Decide.{callEntry, entryFor}
@@ -8,6 +8,12 @@ use Rattle.rules.specs.Plan.{nothing}
 use Rattle.events.specs.declared.Answer.the-variants as answer
 use Rattle.state.proofs.Shaped.{state-shape}
 use Rattle.state.specs.Face.{faceOf}
+use Rattle.state.specs.Zero.{noSlot}
+use Rattle.state.specs.declared.Found.the-variants as found
+use Rattle.state.specs.Slots.{entryFound}
+use Rattle.touch.specs.Carried.{IsSlot}
+use Rattle.call.specs.declared.places.Sought.{Sought}
+use lib.ListN.{getD}
 use Rattle.geometry.specs.Geometry.{slotCount}
 use Prim.Native.Nat.{ℕ}
 use borrow.Author.Tests.{lt-ltb, le-ltb}
@@ -22,38 +28,60 @@ slot-for-requires c κs = well-state (c .before .args .s) _ (c .before .pre .0)
 
 returns : tie.Need-returns
 returns c = λ payload.
-    let a = c .before .before .before .before .before .args in
+    let z = c .before .before .before .before .before in
+    let a = z .args in
     let f = faceOf (a .s) in
     rw (call-8 f (a .mark) (a .address) (a .input) (a .output) (le-ltb (slotFor f (a .mark) (a .address)) slotCount (omega (arith, sought-k (a .s) _ _ (c .before .before .before .slot-for .ensures), c .before .if1 .taken))))
-    (still-settles (a .s) (state-shape (a .s) _ (c .before .before .before .before .before .good .0) .slots-long) nothing (answer.Refused 8) payload (a .memory .now) _ (c .kept .ensures))
+    (still-settles (a .s) (state-shape (a .s) _ (z .good .0) .slots-long) nothing (answer.Refused 8) payload (a .memory .now) _ (c .kept .ensures))
+
+-- past the branch a slot is found
+abbrev start : tie.Else1 → tie.Start
+start e = e .before .before .before .before
+
+abbrev sought : tie.Else1 → Sought
+sought e = e .before .before .slot-for .result
+
+number : (e : tie.Else1) → sought e .k ≡ slotFor (faceOf (start e .args .s)) (start e .args .mark) (start e .args .address)
+number e = sought-k (start e .args .s) _ (sought e) (e .before .before .slot-for .ensures)
+
+is-slot : (e : tie.Else1) → IsSlot (start e .args .s) (sought e .k) (sought e .slot)
+is-slot e = sought-slot (start e .args .s) _ (sought e) (e .before .before .slot-for .ensures) (e .if1 .left)
+
+-- what the slot has at the address, the state's slot has
+same-entry : (e : tie.Else1) → entryFound (getD (start e .args .s .slots) (sought e .k) noSlot .card) (start e .args .address) ≡ entryFound (sought e .slot .card) (start e .args .address)
+same-entry e = entry-by (start e .args .s) (sought e .k) (sought e .slot) (start e .args .address) (is-slot e)
+
+named : (e : tie.Else1) (y : Entry) → entryFound (sought e .slot .card) (start e .args .address) ≡ found.At y → Named (start e .args .s) (start e .args .address) (sought e .k) y
+named e y g =
+    let z = start e in
+    let a = z .args in
+    found-entry (a .s) (well-state (a .s) _ (z .pre .0)) (a .mark) (a .address) (sought e .k) (number e) (e .if1 .left) y (same-entry e ∙ g)
 
 call-entry-requires : tie.Need-call-entry-requires
 call-entry-requires c κs =
-    let a = c .before .before .before .before .before .before .before .before .before .before .args in
-    let x = c .before .before .before .before .before .before .before .before .slot-for .result in
-    let q = sought-slot (a .s) _ x (c .before .before .before .before .before .before .before .before .slot-for .ensures) (c .before .before .before .before .before .before .if1 .left) in
-    let g = found-entry (a .s) (well-state (a .s) _ (c .before .before .before .before .before .before .before .before .before .before .pre .0)) (a .mark) (a .address) (x .k) (sought-k (a .s) _ x (c .before .before .before .before .before .before .before .before .slot-for .ensures)) (c .before .before .before .before .before .before .if1 .left) _ (entry-by (a .s) (x .k) (x .slot) (a .address) q ∙ sym (c .before .before .before .before .entry-found .ensures) ∙ c .before .before .entry .given .1) in
-    (c .before .before .before .before .before .before .before .before .before .before .pre .0, (c .before .before .before .before .before .before .before .before .before .before .pre .1, ((c .before .before .before .before .before .before .if1 .left, q), (g .registered, g .input))))
+    let e = c .before .before .before .before .before .before in
+    let z = start e in
+    let g = named e _ (sym (c .before .before .before .before .entry-found .ensures) ∙ c .before .before .entry .given .1) in
+    (z .pre .0, (z .pre .1, ((e .if1 .left, is-slot e), (g .registered, g .input))))
 
 returns-2 : tie.Need-returns-2
 returns-2 c = λ payload.
-    let a = c .before .before .before .before .before .before .before .before .before .before .before .before .before .args in
+    let e = c .before .before .before .before .before .before .before .before .before in
+    let a = start e .args in
     let f = faceOf (a .s) in
-    let x = c .before .before .before .before .before .before .before .before .before .before .before .slot-for .result in
-    let l = c .before .before .before .before .before .before .before .before .before .if1 .left in
-    let k = sought-k (a .s) _ x (c .before .before .before .before .before .before .before .before .before .before .before .slot-for .ensures) in
-    let q = sought-slot (a .s) _ x (c .before .before .before .before .before .before .before .before .before .before .before .slot-for .ensures) l in
-    let g = found-entry (a .s) (well-state (a .s) _ (c .before .before .before .before .before .before .before .before .before .before .before .before .before .pre .0)) (a .mark) (a .address) (x .k) k l _ (entry-by (a .s) (x .k) (x .slot) (a .address) q ∙ sym (c .before .before .before .before .before .before .before .entry-found .ensures) ∙ c .before .before .before .before .before .entry .given .1) in
-    let e : callEntry f (x .k) (entryFor f (x .k) (a .address)) (a .input) (a .output) ≡ callEntry f (slotFor f (a .mark) (a .address)) (entryFor f (slotFor f (a .mark) (a .address)) (a .address)) (a .input) (a .output) = ap (λ (j : ℕ). callEntry f j (entryFor f j (a .address)) (a .input) (a .output)) k in
-    to-plan (ap (λ (y : Entry). callEntry f (x .k) y (a .input) (a .output)) (g .is) ∙ e ∙ sym (call-on f (a .mark) (a .address) (a .input) (a .output) (lt-ltb (slotFor f (a .mark) (a .address)) slotCount (omega (arith, l, k)))))
+    let n = number e in
+    let g = named e _ (sym (c .before .before .before .before .before .before .before .entry-found .ensures) ∙ c .before .before .before .before .before .entry .given .1) in
+    to-plan
+    (ap (λ (y : Entry). callEntry f (sought e .k) y (a .input) (a .output)) (g .is) ∙ ap (λ (j : ℕ). callEntry f j (entryFor f j (a .address)) (a .input) (a .output)) n
+    ∙ sym (call-on f (a .mark) (a .address) (a .input) (a .output) (lt-ltb (slotFor f (a .mark) (a .address)) slotCount (omega (arith, e .if1 .left, n)))))
     payload (a .s) (a .memory .now) (c .before .before .call-entry .ensures payload)
 
 returns-3 : tie.Need-returns-3
 returns-3 c = λ payload.
-    let a = c .before .before .before .before .before .before .before .before .before .args in
-    let x = c .before .before .before .before .before .before .before .slot-for .result in
-    let q = sought-slot (a .s) _ x (c .before .before .before .before .before .before .before .slot-for .ensures) (c .before .before .before .before .before .if1 .left) in
-    absurd (found-some (a .s) (well-state (a .s) _ (c .before .before .before .before .before .before .before .before .before .pre .0)) (a .mark) (a .address) (x .k) (sought-k (a .s) _ x (c .before .before .before .before .before .before .before .slot-for .ensures)) (c .before .before .before .before .before .if1 .left) (entry-by (a .s) (x .k) (x .slot) (a .address) q ∙ sym (c .before .before .before .entry-found .ensures) ∙ c .before .enum-told .given .1))
+    let e = c .before .before .before .before .before in
+    let z = start e in
+    let a = z .args in
+    absurd (found-some (a .s) (well-state (a .s) _ (z .pre .0)) (a .mark) (a .address) (sought e .k) (number e) (e .if1 .left) (same-entry e ∙ sym (c .before .before .before .entry-found .ensures) ∙ c .before .enum-told .given .1))
 
 kept-requires : tie.Need-kept-requires
 kept-requires c κs = search needs

@@ -31,7 +31,9 @@ element-copy-out-slot : tie.Need-element-copy-out-slot Inv-loop μ-loop
 element-copy-out-slot c = omega arith
 
 callable-requires : tie.Need-callable-requires Inv-loop μ-loop
-callable-requires c κs = few-entries (c .before .before .before .args .t1) (c .before .before .before .pre) (c .before .before .loop .k) (c .before .loop-test .taken)
+callable-requires c κs =
+    let z = c .before .before .before in
+    few-entries (z .args .t1) (z .pre) (c .before .before .loop .k) (c .before .loop-test .taken)
 
 returns : tie.Need-returns Inv-loop μ-loop
 unfolding slotFor

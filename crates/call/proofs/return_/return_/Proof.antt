@@ -14,38 +14,42 @@ use Rattle.call.proofs.return_.return_.Tie as tie
 
 param-start-requires : tie.Need-param-start-requires
 param-start-requires c κs =
-    let a = c .before .before .before .before .before .before .before .args in
-    let h = well-state (a .s) _ (c .before .before .before .before .before .before .before .pre .0) in
-    let q = runs-in (a .s) h (a .k) (c .before .before .before .before .before .before .before .pre .1 .0) in
-    param-ready (a .s) h (a .k) (q .below) (q .registered) (a .slot) (c .before .before .before .before .before .before .before .pre .1 .1)
+    let z = c .before .before .before .before .before .before .before in
+    let a = z .args in
+    let h = well-state (a .s) _ (z .pre .0) in
+    let q = runs-in (a .s) h (a .k) (z .pre .1 .0) in
+    param-ready (a .s) h (a .k) (q .below) (q .registered) (a .slot) (z .pre .1 .1)
 
 add-from : tie.Need-add-from
 add-from c =
-    let a = c .before .before .before .before .before .before .before .before .args in
-    let h = well-state (a .s) _ (c .before .before .before .before .before .before .before .before .pre .0) in
-    let q = runs-in (a .s) h (a .k) (c .before .before .before .before .before .before .before .before .pre .1 .0) in
-    record { fits = omega (arith, c .param-start .ensures, param-ready (a .s) h (a .k) (q .below) (q .registered) (a .slot) (c .before .before .before .before .before .before .before .before .pre .1 .1) .1 .1) }
+    let z = c .before .before .before .before .before .before .before .before in
+    let a = z .args in
+    let h = well-state (a .s) _ (z .pre .0) in
+    let q = runs-in (a .s) h (a .k) (z .pre .1 .0) in
+    record { fits = omega (arith, c .param-start .ensures, param-ready (a .s) h (a .k) (q .below) (q .registered) (a .slot) (z .pre .1 .1) .1 .1) }
 
 move-bytes-requires : tie.Need-move-bytes-requires
 move-bytes-requires c κs =
-    let s = c .before .before .before .before .before .before .before .before .before .args .s in
-    let h = well-state s _ (c .before .before .before .before .before .before .before .before .before .pre .0) in
-    let q = runs-in s h (c .before .before .before .before .before .before .before .before .before .args .k) (c .before .before .before .before .before .before .before .before .before .pre .1 .0) in
-    let e = c .before .param-start .ensures ∙ ap startOf (param-same s h (c .before .before .before .before .before .before .before .before .before .args .k) (q .below) (q .registered) (c .before .before .before .before .before .before .before .before .before .args .slot) (c .before .before .before .before .before .before .before .before .before .pre .1 .1)) in
-    let o = output-small s h (c .before .before .before .before .before .before .before .before .before .args .k) (c .before .before .before .before .before .before .before .before .before .pre .1 .0) in
+    let z = c .before .before .before .before .before .before .before .before .before in
+    let s = z .args .s in
+    let h = well-state s _ (z .pre .0) in
+    let q = runs-in s h (z .args .k) (z .pre .1 .0) in
+    let e = c .before .param-start .ensures ∙ ap startOf (param-same s h (z .args .k) (q .below) (q .registered) (z .args .slot) (z .pre .1 .1)) in
+    let o = output-small s h (z .args .k) (z .pre .1 .0) in
     rw (c .before .before .before .before .before .before .leaving .ensures)
-    (omega (arith, e, param-in s h (c .before .before .before .before .before .before .before .before .before .args .k) (q .below) (q .registered), well-long s _ (c .before .before .before .before .before .before .before .before .before .pre .0), o), (out-fits s _ (c .before .before .before .before .before .before .before .before .before .args .k) (c .before .before .before .before .before .before .before .before .before .pre .0) (c .before .before .before .before .before .before .before .before .before .pre .1 .0), omega (arith, o)))
+    (omega (arith, e, param-in s h (z .args .k) (q .below) (q .registered), well-long s _ (z .pre .0), o), (out-fits s _ (z .args .k) (z .pre .0) (z .pre .1 .0), omega (arith, o)))
 
 returns : tie.Need-returns
 returns c = λ payload.
-    let a = c .before .before .before .before .before .before .before .before .before .before .before .before .before .args in
+    let z = c .before .before .before .before .before .before .before .before .before .before .before .before .before in
+    let a = z .args in
     let s = a .s in
-    let h = well-state s _ (c .before .before .before .before .before .before .before .before .before .before .before .before .before .pre .0) in
-    let r = runs-in s h (a .k) (c .before .before .before .before .before .before .before .before .before .before .before .before .before .pre .1 .0) in
+    let h = well-state s _ (z .pre .0) in
+    let r = runs-in s h (a .k) (z .pre .1 .0) in
     let q = c .before .before .before .before .before .before .before .before .before .before .leaving .ensures in
     let m = a .memory .now in
-    let e = (rw q at (c .before .before .before .move-bytes .ensures)) ∙ (λ i. sets m (s .running .out) (part m ((c .before .before .before .before .before .param-start .ensures ∙ ap startOf (param-same s h (a .k) (r .below) (r .registered) (a .slot) (c .before .before .before .before .before .before .before .before .before .before .before .before .before .pre .1 .1))) i + 2048) (s .running .length))) in
-    returned-settles s (state-shape s _ (c .before .before .before .before .before .before .before .before .before .before .before .before .before .good .0) .slots-long) (a .k) payload m _ _ (rw q at (c .turned .ensures)) e
+    let e = (rw q at (c .before .before .before .move-bytes .ensures)) ∙ (λ i. sets m (s .running .out) (part m ((c .before .before .before .before .before .param-start .ensures ∙ ap startOf (param-same s h (a .k) (r .below) (r .registered) (a .slot) (z .pre .1 .1))) i + 2048) (s .running .length))) in
+    returned-settles s (state-shape s _ (z .good .0) .slots-long) (a .k) payload m _ _ (rw q at (c .turned .ensures)) e
 
 leaving-requires : tie.Need-leaving-requires
 leaving-requires c κs = search needs

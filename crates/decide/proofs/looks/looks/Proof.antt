@@ -12,37 +12,57 @@ arm : {x : Look} {d : Event} (e : Event) (k : ℕ) → x ≡ looks d k → e ≡
 arm e k h q = h ∙ ap (λ (f : Event). looks f k) (sym q)
 
 returns : tie.Need-returns
-returns c = arm (c .before .before .before .args .event) (c .before .before .before .args .k) (c .at .ensures) (c .before .enum-told .given .1)
+returns c =
+    let z = c .before .before .before in
+    arm (z .args .event) (z .args .k) (c .at .ensures) (c .before .enum-told .given .1)
 
 returns-2 : tie.Need-returns-2
-returns-2 c = arm (c .before .before .before .before .args .event) (c .before .before .before .before .args .k) (c .at2 .ensures) (c .before .before .event .given .1)
+returns-2 c =
+    let z = c .before .before .before .before in
+    arm (z .args .event) (z .args .k) (c .at2 .ensures) (c .before .before .event .given .1)
 
 returns-3 : tie.Need-returns-3
 returns-3 c = ap (λ (f : Event). looks f (c .before .before .before .args .k)) (sym (c .before .event2 .given .1))
 
 returns-4 : tie.Need-returns-4
-returns-4 c = arm (c .before .before .before .args .event) (c .before .before .before .args .k) (c .at3 .ensures) (c .before .enum-told2 .given .1)
+returns-4 c =
+    let z = c .before .before .before in
+    arm (z .args .event) (z .args .k) (c .at3 .ensures) (c .before .enum-told2 .given .1)
 
 returns-5 : tie.Need-returns-5
-returns-5 c = arm (c .before .before .before .before .args .event) (c .before .before .before .before .args .k) (c .at4 .ensures) (c .before .before .event3 .given .1)
+returns-5 c =
+    let z = c .before .before .before .before in
+    arm (z .args .event) (z .args .k) (c .at4 .ensures) (c .before .before .event3 .given .1)
 
 returns-6 : tie.Need-returns-6
-returns-6 c = arm (c .before .before .before .before .args .event) (c .before .before .before .before .args .k) (c .at5 .ensures) (c .before .before .event4 .given .1)
+returns-6 c =
+    let z = c .before .before .before .before in
+    arm (z .args .event) (z .args .k) (c .at5 .ensures) (c .before .before .event4 .given .1)
 
 returns-7 : tie.Need-returns-7
-returns-7 c = arm (c .before .before .before .before .args .event) (c .before .before .before .before .args .k) (c .at6 .ensures) (c .before .before .event5 .given .1)
+returns-7 c =
+    let z = c .before .before .before .before in
+    arm (z .args .event) (z .args .k) (c .at6 .ensures) (c .before .before .event5 .given .1)
 
 returns-8 : tie.Need-returns-8
-returns-8 c = arm (c .before .before .before .before .args .event) (c .before .before .before .before .args .k) (c .at7 .ensures) (c .before .before .event6 .given .1)
+returns-8 c =
+    let z = c .before .before .before .before in
+    arm (z .args .event) (z .args .k) (c .at7 .ensures) (c .before .before .event6 .given .1)
 
 returns-9 : tie.Need-returns-9
-returns-9 c = arm (c .before .before .before .before .args .event) (c .before .before .before .before .args .k) (c .at8 .ensures) (c .before .before .event7 .given .1)
+returns-9 c =
+    let z = c .before .before .before .before in
+    arm (z .args .event) (z .args .k) (c .at8 .ensures) (c .before .before .event7 .given .1)
 
 returns-10 : tie.Need-returns-10
-returns-10 c = arm (c .before .before .before .before .args .event) (c .before .before .before .before .args .k) (c .at9 .ensures) (c .before .before .event8 .given .1)
+returns-10 c =
+    let z = c .before .before .before .before in
+    arm (z .args .event) (z .args .k) (c .at9 .ensures) (c .before .before .event8 .given .1)
 
 returns-11 : tie.Need-returns-11
-returns-11 c = arm (c .before .before .before .args .event) (c .before .before .before .args .k) (c .at10 .ensures) (c .before .enum-told3 .given .1)
+returns-11 c =
+    let z = c .before .before .before in
+    arm (z .args .event) (z .args .k) (c .at10 .ensures) (c .before .enum-told3 .given .1)
 
 enum-told : tie.Need-enum-told
 enum-told c = search needs

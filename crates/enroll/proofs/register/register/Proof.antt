@@ -4,7 +4,7 @@ use Rattle.release.proofs.Releases.{pages-alone}
 use Rattle.change.proofs.Settled.{still-settles, to-plan}
 use Rattle.wellformed.proofs.States.{well-long}
 use Rattle.rules.specs.Decide.{registerRule, registered}
-use Rattle.rules.specs.Tests.{freeSlot}
+use Rattle.rules.specs.Tests.{allOpen, freeSlot}
 use Rattle.rules.specs.Plan.{nothing}
 use Rattle.events.specs.declared.Answer.the-variants as answer
 use Rattle.state.proofs.Shaped.{state-shape}
@@ -16,7 +16,10 @@ use Rattle.lists.specs.Bytes.{gather}
 use Prim.Native.Nat.{ℕ}
 use borrow.Author.Tests.{not-true, not-false, eq-eqb, ne-eqb, lt-ltb, le-ltb}
 use mathlib.Core.List.{List}
-use mathlib.Core.Path.{sym, ap, _∙_}
+use mathlib.Core.Path.{_≡_, sym, ap, _∙_}
+use mathlib.Core.Bool.{true}
+use lib.Dec.{eqb}
+use Rattle.fields.proofs.Facts.{Kept}
 use borrow.Author.Needs.{needs}
 use native.Mathlib.Omega.{arith}
 use Rattle.enroll.proofs.register.register.Statement.{statement}
@@ -24,6 +27,26 @@ use Rattle.enroll.proofs.register.register.Tie as tie
 
 read-requires : tie.Need-read-requires
 read-requires c κs = search needs
+
+-- past the first branch the manifest is read, and keeps the rules
+abbrev start : tie.Else1 → tie.Start
+start e = e .before .before .before .before .before
+
+abbrev reading : tie.Else1 → Reading
+reading e = e .before .before .read .result
+
+read-so : (e : tie.Else1) → eqb (reading e .refusal) 0 ≡ true
+read-so e = eq-eqb (reading e .refusal) 0 (e .if1 .left)
+
+kept-so : (e : tie.Else1) → Kept (reading e .fields)
+kept-so e = read-kept _ (reading e) (e .before .before .read .ensures) (e .if1 .left)
+
+-- past the second its pages are open
+abbrev first : tie.Else2 → tie.Else1
+first g = g .before .before .before .before .before .before
+
+open-so : (g : tie.Else2) → allOpen (faceOf (start (first g) .args .t1)) (reading (first g) .fields) ≡ true
+open-so g = sym (open-same (faceOf (start (first g) .args .t1)) (reading (first g) .fields) (kept-so (first g))) ∙ sym (g .before .all-open .ensures) ∙ not-false _ (g .if2 .left)
 
 returns : tie.Need-returns
 returns c =
@@ -37,18 +60,17 @@ returns c =
     (still-settles (a .t1) (state-shape (a .t1) _ (z .good .0) .slots-long) nothing (answer.Refused 3) (a .payload .now) (a .memory .now) _ (c .kept .ensures))
 
 all-open-requires : tie.Need-all-open-requires
-all-open-requires c κs = kept-fit _ (read-kept _ (c .before .before .before .before .before .before .read .result) (c .before .before .before .before .before .before .read .ensures) (c .before .before .before .before .if1 .left))
+all-open-requires c κs = kept-fit _ (kept-so (c .before .before .before .before))
 
 returns-2 : tie.Need-returns-2
 returns-2 c =
-    let z = c .before .before .before .before .before .before .before .before .before .before .before .before in
+    let e = c .before .before .before .before .before .before .before in
+    let z = start e in
     let a = z .args in
     let f = faceOf (a .t1) in
-    let r = c .before .before .before .before .before .before .before .before .before .read .result in
-    let q = c .before .before .before .before .before .before .before .before .before .read .ensures in
-    let k = read-kept _ r q (c .before .before .before .before .before .before .before .if1 .left) in
-    let o = sym (open-same f (r .fields) k) ∙ sym (c .before .before .all-open .ensures) ∙ not-true _ (c .before .if2 .taken) in
-    to-plan (sym (register-6 f (a .mark) r (eq-eqb (r .refusal) 0 (c .before .before .before .before .before .before .before .if1 .left)) o) ∙ ap (λ (x : Reading). registerRule f (a .mark) x) q)
+    let r = reading e in
+    let o = sym (open-same f (r .fields) (kept-so e)) ∙ sym (c .before .before .all-open .ensures) ∙ not-true _ (c .before .if2 .taken) in
+    to-plan (sym (register-6 f (a .mark) r (read-so e) o) ∙ ap (λ (x : Reading). registerRule f (a .mark) x) (e .before .before .read .ensures))
     (a .payload .now) (a .t1) (a .memory .now)
     (still-settles (a .t1) (state-shape (a .t1) _ (z .good .0) .slots-long) nothing (answer.Refused 6) (a .payload .now) (a .memory .now) _ (c .kept2 .ensures))
 
@@ -57,43 +79,37 @@ free-slot-requires c κs = search needs
 
 returns-3 : tie.Need-returns-3
 returns-3 c =
-    let z = c .before .before .before .before .before .before .before .before .before .before .before .before .before .before in
+    let g = c .before .before .before in
+    let e = first g in
+    let z = start e in
     let a = z .args in
     let f = faceOf (a .t1) in
-    let r = c .before .before .before .before .before .before .before .before .before .before .before .read .result in
-    let q = c .before .before .before .before .before .before .before .before .before .before .before .read .ensures in
-    let k = read-kept _ r q (c .before .before .before .before .before .before .before .before .before .if1 .left) in
-    let o = sym (open-same f (r .fields) k) ∙ sym (c .before .before .before .before .all-open .ensures) ∙ not-false _ (c .before .before .before .if2 .left) in
-    to-plan (sym (register-7 f (a .mark) r (eq-eqb (r .refusal) 0 (c .before .before .before .before .before .before .before .before .before .if1 .left)) o (le-ltb (freeSlot f) slotCount (omega (arith, c .before .before .free-slot .ensures, c .before .if3 .taken)))) ∙ ap (λ (x : Reading). registerRule f (a .mark) x) q)
+    to-plan (sym (register-7 f (a .mark) (reading e) (read-so e) (open-so g) (le-ltb (freeSlot f) slotCount (omega (arith, c .before .before .free-slot .ensures, c .before .if3 .taken)))) ∙ ap (λ (x : Reading). registerRule f (a .mark) x) (e .before .before .read .ensures))
     (a .payload .now) (a .t1) (a .memory .now)
     (still-settles (a .t1) (state-shape (a .t1) _ (z .good .0) .slots-long) nothing (answer.Refused 7) (a .payload .now) (a .memory .now) _ (c .kept3 .ensures))
 
 measured-requires : tie.Need-measured-requires
 measured-requires c κs =
-    let z = c .before .before .before .before .before .before .before .before .before .before .before .before .before in
-    let a = z .args in
-    let f = faceOf (a .t1) in
-    let r = c .before .before .before .before .before .before .before .before .before .before .read .result in
-    let k = read-kept _ r (c .before .before .before .before .before .before .before .before .before .before .read .ensures) (c .before .before .before .before .before .before .before .before .if1 .left) in
-    let o = sym (open-same f (r .fields) k) ∙ sym (c .before .before .before .all-open .ensures) ∙ not-false _ (c .before .before .if2 .left) in
-    open-runs f (r .fields) _ k o (well-long (a .t1) _ (z .pre))
+    let g = c .before .before in
+    let e = first g in
+    let z = start e in
+    open-runs (faceOf (z .args .t1)) (reading e .fields) _ (kept-so e) (open-so g) (well-long (z .args .t1) _ (z .pre))
 
 returns-4 : tie.Need-returns-4
 returns-4 c =
-    let z = c .before .before .before .before .before .before .before .before .before .before .before .before .before .before .before in
+    let g = c .before .before .before .before in
+    let e = first g in
+    let z = start e in
     let a = z .args in
     let f = faceOf (a .t1) in
-    let r = c .before .before .before .before .before .before .before .before .before .before .before .before .read .result in
-    let q = c .before .before .before .before .before .before .before .before .before .before .before .before .read .ensures in
-    let k = read-kept _ r q (c .before .before .before .before .before .before .before .before .before .before .if1 .left) in
-    let o = sym (open-same f (r .fields) k) ∙ sym (c .before .before .before .before .before .all-open .ensures) ∙ not-false _ (c .before .before .before .before .if2 .left) in
+    let r = reading e in
     let n = c .before .before .before .free-slot .ensures in
     let p = ap (λ (j : ℕ). registered f j (a .mark) (r .fields)) n
-    ∙ sym (register-on f (a .mark) r (eq-eqb (r .refusal) 0 (c .before .before .before .before .before .before .before .before .before .before .if1 .left)) o (lt-ltb (freeSlot f) slotCount (omega (arith, n, c .before .before .if3 .left))))
-    ∙ ap (λ (x : Reading). registerRule f (a .mark) x) q in
+    ∙ sym (register-on f (a .mark) r (read-so e) (open-so g) (lt-ltb (freeSlot f) slotCount (omega (arith, n, c .before .before .if3 .left))))
+    ∙ ap (λ (x : Reading). registerRule f (a .mark) x) (e .before .before .read .ensures) in
     let d = c .before .measured .ensures ∙ ap (λ (ps : List ℕ). sha1 (gather pageSize (a .memory .now) ps)) (pages-alone (r .fields)) in
     to-plan p (a .payload .now) (a .t1) (a .memory .now)
-    (registered-settles (a .t1) (state-shape (a .t1) _ (z .good .0) .slots-long) (c .before .before .before .free-slot .result) (c .before .before .if3 .left) (a .mark) (r .fields) (kept-fit _ k) (a .payload .now) (a .memory .now) (c .before .measured .result) _ d (c .enrolling .ensures))
+    (registered-settles (a .t1) (state-shape (a .t1) _ (z .good .0) .slots-long) (c .before .before .before .free-slot .result) (c .before .before .if3 .left) (a .mark) (r .fields) (kept-fit _ (kept-so e)) (a .payload .now) (a .memory .now) (c .before .measured .result) _ d (c .enrolling .ensures))
 
 kept-requires : tie.Need-kept-requires
 kept-requires c κs = search needs

@@ -32,10 +32,11 @@ returns-3 c = λ mode f access pcrs e t.
 
 give-bytes-requires : tie.Need-give-bytes-requires
 give-bytes-requires c κs =
-    let a = c .before .before .before .before .before .before .before .args in
+    let z = c .before .before .before .before .before .before .before in
+    let a = z .args in
     let e = sym (c .before .before .before .before .is-range .ensures) ∙ not-false _ (c .before .before .before .if1 .left) in
     let h = range-fits (a .pages) (a .address) (a .n) e in
-    (omega (arith, c .before .before .before .before .before .before .before .pre), (c .before .if3 .left, range (a .pages) (a .address) (a .n) e .most))
+    (omega (arith, z .pre), (c .before .if3 .left, range (a .pages) (a .address) (a .n) e .most))
 
 same-length : tie.Need-same-length
 same-length c = search needs

@@ -27,10 +27,11 @@ returns-2 c = λ mode f access e t.
 
 put-bytes-requires : tie.Need-put-bytes-requires
 put-bytes-requires c κs =
-    let a = c .before .before .before .before .before .before .args in
+    let z = c .before .before .before .before .before .before in
+    let a = z .args in
     let e = sym (c .before .before .before .is-range .ensures) ∙ not-false _ (c .before .before .if1 .left) in
     let h = range-fits (a .pages) (a .address) (length (a .payload .now)) e in
-    (omega (arith, c .before .before .before .before .before .before .pre), range (a .pages) (a .address) (length (a .payload .now)) e .most)
+    (omega (arith, z .pre), range (a .pages) (a .address) (length (a .payload .now)) e .most)
 
 same-length : tie.Need-same-length
 same-length c = search needs
