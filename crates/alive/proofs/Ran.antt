@@ -14,7 +14,7 @@ use Rattle.lists.proofs.Parts.{part_kept, part_sets}
 use Rattle.lists.proofs.Pages.{wipe_long}
 use Rattle.geometry.specs.Geometry.{page_size, is_range, page_of}
 use Rattle.memory.specs.declared.Source.TheVariants.{Payload}
-use Rattle.sha1.specs.declared.Digest.{Digest}
+use Rattle.sha_1.specs.declared.Digest.{Digest}
 use Rattle.fields.specs.Rules.{in_code}
 use Rattle.fields.specs.Pages.{has_page, pages_of, param_of}
 use Rattle.manifest.specs.Reader.{read_manifest}

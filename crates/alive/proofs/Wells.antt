@@ -7,7 +7,7 @@ use mathlib.Core.List.{List}
 use lib.ListN.{length}
 use Rattle.lists.specs.Below.{all_below, any_below, first_below, sum_below, table}
 use Rattle.geometry.specs.Geometry.{page_size, is_range}
-use Rattle.sha1.specs.declared.Digest.{Digest}
+use Rattle.sha_1.specs.declared.Digest.{Digest}
 use Rattle.fields.specs.Pages.{has_page, pages_under}
 use Rattle.fields.specs.Rules.{counts_right, runs_rise, pages_few, some_code, one_param, runs_right, in_code, entries_rise, entries_right, unused_zero, keeps_rules}
 use Rattle.state.specs.declared.State.{State}

@@ -4,7 +4,7 @@ use Rattle.lists.specs.Below.{table}
 use Rattle.geometry.specs.Geometry.{slot_count}
 use Rattle.fields.specs.declared.Fields.{Fields}
 use Rattle.fields.specs.Fields.{no_run, no_entry}
-use Rattle.sha1.specs.declared.Digest.{Digest}
+use Rattle.sha_1.specs.declared.Digest.{Digest}
 use Rattle.state.specs.declared.Mode.{Mode}
 use Rattle.state.specs.declared.Mode.TheVariants.{Legacy, Secure}
 use Rattle.state.specs.declared.Running.{Running}

@@ -1,7 +1,7 @@
 -- Isolation is not empty: two worlds that differ in all that it lets differ go through call, writes, extend, return, release and a read.
 use Rattle.std.specs.Prelude.{ℕ, ◌≤◌, ◌<◌, ◌≡◌, ◌⊎◌, true, List, [], ◌∷◌, length, get_or}
 use Rattle.memory.specs.declared.Source.TheVariants.{Payload}
-use Rattle.sha1.specs.declared.Digest.{Digest}
+use Rattle.sha_1.specs.declared.Digest.{Digest}
 use Rattle.events.specs.declared.Event.{Event}
 use Rattle.events.specs.declared.Event.TheVariants.{Unregister, Call, Return, Read, Write, Extend}
 use Rattle.events.specs.declared.Answer.{Answer}

@@ -1,4 +1,6 @@
 // No code: what the rules give, computed, each table a promise. A monitor that refuses all would keep every other theorem.
+#![tactic(auto)]
+
 ghost use Rattle.std.specs.Prelude.{◌≡◌, true};
 ghost use Rattle.alive.specs.Rows.{Holds};
 ghost use Rattle.alive.specs.Examples.{all_right, examples};

@@ -1,4 +1,6 @@
 // One answer to its text: `ok`, `slot S`, `in S`, `out N`, `dead S`, `hex` and the bytes, `no R` (document 01, "The line program").
+#![tactic(auto)]
+
 ghost use Rattle.std.specs.Prelude.{◌≡◌, List, [], ◌∷◌, ◌++◌, ℕ, ◌+◌, ◌*◌, ◌≤◌, length};
 ghost use Rattle.std.proofs.lemmas.List.Edits.{sets};
 ghost use Rattle.numerals.specs.Decimal.{decimal};

@@ -1,5 +1,7 @@
 // The line program: standard input to standard output, on P=8, M=1, zeroed memory and a 4,096-byte answer buffer (document 01, "The line program").
 // What the bytes that are read make of state, memory, answer buffer and output is desk::serve's contract; here they are only read and written.
+#![tactic(auto)]
+
 ghost use Rattle.std.specs.Prelude.{◌≤◌, ◌<◌, length};
 ghost use Rattle.lines.specs.Grammar.{payload_room};
 ghost use Rattle.gather.specs.Lines.{most_kept};
@@ -9,7 +11,7 @@ use libc::{STDIN_FILENO, STDOUT_FILENO};
 use state::State;
 
 // The part of the block that waits to be heard, and whether there may be more to read.
-#[derive(Drop)]
+#[derive(Clone, Copy)]
 struct Part {
     at: usize,
     end: usize,

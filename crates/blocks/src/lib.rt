@@ -1,3 +1,5 @@
+#![tactic(auto)]
+
 ghost use Rattle.std.specs.Prelude.{◌≡◌, ◌+◌, ◌-◌, ◌*◌, ◌%◌, ◌≤◌, ◌<◌, length};
 ghost use Rattle.lists.specs.Numbers.{big, big_at};
 ghost use Rattle.blocks.specs.Blocks.{block_size, word_size, length_size, gap};
@@ -53,7 +55,7 @@ fn big8(x: usize) -> [u8; LENGTH]
 }
 
 // The one or two blocks that end a message: the first count bytes, and zeros.
-#[derive(Drop)]
+#[derive(Clone, Copy)]
 pub struct Tail {
     pub bytes: [u8; 2 * BLOCK],
     pub count: usize,

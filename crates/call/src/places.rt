@@ -31,7 +31,7 @@ fn callable(slot: Slot, mark: u64, address: usize) -> bool
 }
 
 // A slot and its number; none: 8, and a zero slot.
-#[derive(Drop)]
+#[derive(Clone, Copy)]
 pub struct Sought {
     pub k: usize,
     pub slot: Slot,

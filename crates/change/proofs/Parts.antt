@@ -8,7 +8,7 @@ use mathlib.Core.List.{List, map}
 use lib.ListN.{length, get_or, set}
 use Rattle.lists.proofs.Logic.{pick_true, pick_false}
 use Rattle.geometry.specs.Geometry.{slot_count, most_pages}
-use Rattle.sha1.specs.declared.Digest.{Digest}
+use Rattle.sha_1.specs.declared.Digest.{Digest}
 use Rattle.fields.specs.declared.Fields.{Fields}
 use Rattle.fields.specs.Fields.{zero_fields}
 use Rattle.painting.specs.Painting.{RunsFit, painted_runs}

@@ -2,7 +2,7 @@
 use Rattle.std.specs.Prelude.{ℕ, ◌+◌, ◌<◌, true, false, List, get_or, set}
 use Rattle.lists.specs.Below.{pick}
 use Rattle.geometry.specs.Geometry.{slot_count, pcr_count}
-use Rattle.sha1.specs.declared.Digest.{Digest}
+use Rattle.sha_1.specs.declared.Digest.{Digest}
 use Rattle.fields.specs.declared.Fields.{Fields}
 use Rattle.fields.specs.Fields.{zero_fields}
 use Rattle.painting.specs.Painting.{painted_runs}

@@ -1,7 +1,7 @@
 -- What becomes of the state: each turn, and the state after it.
 use Rattle.std.specs.Prelude.{ℕ, ◌+◌, ◌<◌, true, List, get_or, set}
 use Rattle.geometry.specs.Geometry.{slot_count, pcr_count}
-use Rattle.sha1.specs.declared.Digest.{Digest}
+use Rattle.sha_1.specs.declared.Digest.{Digest}
 use Rattle.fields.specs.declared.Fields.{Fields}
 use Rattle.fields.specs.Fields.{zero_fields}
 use Rattle.painting.specs.Painting.{RunsFit}

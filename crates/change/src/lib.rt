@@ -1,5 +1,7 @@
 // What an event leaves: its answer, and what becomes of the state. Events look at the state and say what becomes of it; what each turn stores is said
 // here alone, for a state by value (`changed`) and, part by part, for one that is lent. So no event copies the state.
+#![tactic(auto)]
+
 ghost use Rattle.std.specs.Prelude.{◌≡◌, ◌<◌};
 ghost use Rattle.geometry.specs.Geometry.{slot_count};
 ghost use Rattle.change.specs.Turns as Turns;
@@ -8,10 +10,10 @@ ghost use Rattle.change.specs.Parts as Parts;
 use events::Answer;
 use fields::Fields;
 use geometry::Geometry;
-use sha1::Digest;
+use sha_1::Digest;
 use state::{Card, Mode, Running, Slot, State};
 
-#[derive(Drop)]
+#[derive(Clone, Copy)]
 pub enum Turn {
     Kept,
     Enters(Running),
@@ -22,7 +24,7 @@ pub enum Turn {
 }
 
 // Fields and digest are those of the turns that need them, else zero.
-#[derive(Drop)]
+#[derive(Clone, Copy)]
 pub struct Change {
     pub answer: Answer,
     pub turn: Turn,
@@ -31,7 +33,7 @@ pub struct Change {
 }
 
 // What a turn stores, part by part, so that a state that is lent is changed where it stands: the mode and the running record,
-#[derive(Drop)]
+#[derive(Clone, Copy)]
 pub struct Steer {
     pub steers: bool,
     pub mode: Mode,
@@ -39,14 +41,14 @@ pub struct Steer {
 }
 
 // a slot, by its number,
-#[derive(Drop)]
+#[derive(Clone, Copy)]
 pub struct Place {
     pub seats: bool,
     pub number: usize,
 }
 
 // what stands in it afterwards, and the owner that the pages of the fields' runs get.
-#[derive(Drop)]
+#[derive(Clone, Copy)]
 pub struct Seat {
     pub slot: Slot,
     pub fields: Fields,

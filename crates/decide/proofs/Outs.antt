@@ -5,7 +5,7 @@ use mathlib.Core.Bool.{true, false, not, false≢true}
 use mathlib.Core.List.{List}
 use lib.ListN.{length}
 use Rattle.geometry.specs.Geometry.{slot_count}
-use Rattle.sha1.specs.declared.Digest.{Digest}
+use Rattle.sha_1.specs.declared.Digest.{Digest}
 use Rattle.manifest.specs.declared.Reading.{Reading}
 use Rattle.manifest.specs.Reader.{read_manifest}
 use Rattle.state.specs.declared.Mode.{Mode}

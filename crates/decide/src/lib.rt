@@ -1,4 +1,6 @@
 // The decision: what an event looks at in the state, checks 1 and 2, and the event's own function.
+#![tactic(auto)]
+
 mod looks; // where each event looks
 mod modes; // the slot that runs; check 2
 
@@ -22,7 +24,7 @@ use touch::{pcr_read, read, write};
 use wellformed::Sight;
 
 // What an event looks at: a slot, and two pages.
-#[derive(Drop)]
+#[derive(Clone, Copy)]
 pub struct Look {
     pub slot: usize,
     pub page: usize,

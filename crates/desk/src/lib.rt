@@ -1,4 +1,6 @@
 // One line of input on the monitor: what it says is done and answered; what is not readable is `no 11`, and changes nothing.
+#![tactic(auto)]
+
 ghost use Rattle.std.specs.Prelude.{◌≡◌, List, [], ℕ, ◌≤◌, length, take};
 ghost use Rattle.std.proofs.lemmas.List.Edits.{sets};
 ghost use Rattle.lines.specs.Grammar.{payload_room};
@@ -37,7 +39,7 @@ pub fn hear(
 }
 
 // Where the lines of a text have led: the state, how far the text is heard, and how many characters the answers have.
-#[derive(Drop)]
+#[derive(Clone, Copy)]
 pub struct Desk {
     pub state: State,
     pub at: usize,

@@ -1,4 +1,6 @@
 // The device map (document 01, "Device map"): one bit a page, 1 where a device may not reach it.
+#![tactic(auto)]
+
 ghost use Rattle.std.specs.Prelude.{◌≡◌, ℕ, ◌≤◌, ◌<◌, ◌+◌, length};
 ghost use Rattle.std.proofs.lemmas.List.Edits.{sets};
 ghost use Rattle.lists.specs.Below.{table};
@@ -10,7 +12,7 @@ use geometry::Geometry;
 use state::State;
 
 // So many bytes of the buffer, or the number of the refusal.
-#[derive(Drop)]
+#[derive(Clone, Copy)]
 pub enum Mapped {
     Bytes(usize),
     Refused(u8),

@@ -1,4 +1,6 @@
 // The device map for C. It asks nothing of its caller beyond what C owes (host/monitor.h).
+#![tactic(auto)]
+
 ghost use Rattle.std.specs.Prelude.{◌≡◌};
 ghost use Rattle.twin.specs.Asked.{answered};
 ghost use Rattle.devicemap_c.specs.Map.{mapped_reply, host_map};

@@ -10,10 +10,10 @@ use Rattle.lists.specs.Below.{table, joined}
 use Rattle.lists.specs.Bytes.{part, counted, gather}
 use Rattle.lists.proofs.Tables.{joined_more}
 use Rattle.lists.proofs.Parts.{part_none, part_lent, part_long}
-use Rattle.sha1.specs.declared.Hashing.{Hashing}
-use Rattle.sha1.specs.Parts.{taken_in, finished_of, Holds}
-use Rattle.sha1.specs.Sha1.{sha1}
-use Rattle.sha1.proofs.Holds.{holds_taken, holds_finished}
+use Rattle.sha_1.specs.declared.Hashing.{Hashing}
+use Rattle.sha_1.specs.Parts.{taken_in, finished_of, Holds}
+use Rattle.sha_1.specs.Sha1.{sha1}
+use Rattle.sha_1.proofs.Holds.{holds_taken, holds_finished}
 
 -- a part after a part
 part_append : (m : List ℕ) (a n k : ℕ) → part m a (n + k) ≡ part m a n ++ part m (a + n) k

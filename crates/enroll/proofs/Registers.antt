@@ -8,8 +8,8 @@ use lib.ListN.{length, set}
 use lib.Dec.{ltb, eqb}
 use Rattle.lists.specs.Bytes.{gather}
 use Rattle.geometry.specs.Geometry.{page_size, slot_count, start_of}
-use Rattle.sha1.specs.declared.Digest.{Digest}
-use Rattle.sha1.specs.Sha1.{sha1}
+use Rattle.sha_1.specs.declared.Digest.{Digest}
+use Rattle.sha_1.specs.Sha1.{sha1}
 use Rattle.fields.specs.declared.Fields.{Fields}
 use Rattle.fields.specs.Pages.{pages_of}
 use Rattle.fields.proofs.Facts.{Kept, kept}

@@ -1,8 +1,10 @@
 // Events and answers (document 01, "Eleven events").
+#![tactic(auto)]
+
 use memory::Source;
 
 // "An event is one of eleven kinds, each with its own numbers; payload bytes travel beside it."
-#[derive(Drop)]
+#[derive(Clone, Copy)]
 pub enum Event {
     Register {
         mark: u64,
@@ -46,7 +48,7 @@ pub enum Event {
     },
 }
 
-#[derive(Drop)]
+#[derive(Clone, Copy)]
 pub enum Answer {
     Done,
     Slot(usize),

@@ -11,8 +11,8 @@ use Rattle.geometry.specs.Geometry.{slot_count, pcr_count, start_of}
 use Rattle.memory.specs.declared.Source.{Source}
 use Rattle.memory.specs.declared.Source.TheVariants.{Payload, Memory}
 use Rattle.memory.specs.Source.{chosen_of, InRange}
-use Rattle.sha1.specs.declared.Digest.{Digest}
-use Rattle.sha1.specs.Sha1.{sha1}
+use Rattle.sha_1.specs.declared.Digest.{Digest}
+use Rattle.sha_1.specs.Sha1.{sha1}
 use Rattle.state.specs.declared.Slot.{Slot}
 use Rattle.state.specs.declared.State.{State}
 use Rattle.state.specs.declared.Card.{Card}

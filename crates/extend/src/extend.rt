@@ -65,6 +65,6 @@ pub fn extend<'a>(
     }
     let from = switch::kept_as(n, address);
     let part = memory::chosen(payload, memory, source, from, n);
-    let digest = sha1::hash(part);
+    let digest = sha_1::hash(part);
     change::extending(k, index, digest)
 }

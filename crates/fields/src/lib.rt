@@ -1,9 +1,11 @@
 // The fields of a manifest: runs of pages and entries (document 01, "Manifest").
+#![tactic(auto)]
+
 ghost use Rattle.std.specs.Prelude.{◌≡◌, [], ◌∷◌};
 ghost use Rattle.fields.specs.Fields.{run_places, entry_places};
 
 #[repr(C)]
-#[derive(Drop)]
+#[derive(Clone, Copy)]
 pub struct Run {
     pub kind: u8,
     pub count: u16,
@@ -11,7 +13,7 @@ pub struct Run {
 }
 
 #[repr(C)]
-#[derive(Drop)]
+#[derive(Clone, Copy)]
 pub struct Entry {
     pub address: u32,
     pub input: u16,
@@ -20,7 +22,7 @@ pub struct Entry {
 
 // r runs and e entries are in use, from the front on; the unused places are zero.
 #[repr(C)]
-#[derive(Drop)]
+#[derive(Clone, Copy)]
 pub struct Fields {
     pub r: usize,
     pub e: usize,

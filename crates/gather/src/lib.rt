@@ -1,4 +1,6 @@
 // Lines out of the text that is read: only byte 10 ends a line, and of one that has not ended no more is kept than says that it is too long (document 01, "The line program").
+#![tactic(auto)]
+
 ghost use Rattle.std.specs.Prelude.{◌≡◌, ◌+◌, ◌-◌, ◌≤◌, ◌<◌, length};
 ghost use Rattle.std.proofs.lemmas.List.Edits.{sets};
 ghost use Rattle.lists.specs.Bytes.{part};
@@ -38,7 +40,7 @@ pub fn carry(block: &mut [u8], from: usize, to: usize) -> usize
 }
 
 // Where the text in a block ends, and whether there may be more of it.
-#[derive(Drop)]
+#[derive(Clone, Copy)]
 pub struct Text {
     pub end: usize,
     pub more: bool,

@@ -1,16 +1,18 @@
 // The machine's geometry: the one place of its numbers, from address to page and from page to bytes.
+#![tactic(auto)]
+
 ghost use Rattle.std.specs.Prelude.{◌≡◌, ◌≤◌, ◌<◌, [], ◌∷◌};
 ghost use Rattle.geometry.specs.Geometry.{page_size, least_pages, most_pages, slot_count, pcr_count, digest_size, most_held, half_page, page_of, start_of, bytes_of, is_range};
 
 // The bytes of a page: from `start` up to, and without, `end`.
-#[derive(Drop)]
+#[derive(Clone, Copy)]
 pub struct Span {
     pub start: usize,
     pub end: usize,
 }
 
 // A type for its constants alone.
-#[derive(Drop)]
+#[derive(Clone, Copy)]
 pub struct Geometry {
     pub pages: usize,
 }

@@ -7,7 +7,7 @@ use mir.Val.{Val}
 use denote.Laws.{Is}
 use denote.Struct.Declared.{row}
 use Rattle.geometry.specs.Geometry.{most_pages}
-use Rattle.sha1.specs.declared.Digest.{Digest}
+use Rattle.sha_1.specs.declared.Digest.{Digest}
 use Rattle.fields.specs.declared.Fields.{Fields}
 use Rattle.state.specs.declared.State.{State}
 use Rattle.state.specs.declared.Slot.{Slot}

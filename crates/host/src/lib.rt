@@ -1,5 +1,7 @@
 // An event for C: the monitor's state is lent, everything else is a struct by value or a lent slice. It asks nothing of its caller beyond what
 // C owes (host/monitor.h).
+#![tactic(auto)]
+
 ghost use Rattle.std.specs.Prelude.{◌≡◌, get_or};
 ghost use Rattle.wellformed.specs.Seen.{seen_of};
 ghost use Rattle.wellformed.specs.Steps.{whole_of, sight_of};
@@ -16,7 +18,7 @@ use twin::{Asked, Monitor, Reply, Request};
 use wellformed::{Sight, Test};
 
 // What an event comes to: its reply, and what is stored where the state stands: the mode and the running record; a slot, which the change fills.
-#[derive(Drop)]
+#[derive(Clone, Copy)]
 pub struct Heard {
     pub reply: Reply,
     pub steers: bool,

@@ -17,7 +17,7 @@ use Rattle.geometry.specs.Geometry.{page_size, slot_count, page_of, start_of}
 use Rattle.memory.specs.declared.Source.{Source}
 use Rattle.memory.specs.declared.Source.TheVariants.{Payload, Memory}
 use Rattle.memory.specs.Source.{chosen_of}
-use Rattle.sha1.specs.declared.Digest.{Digest}
+use Rattle.sha_1.specs.declared.Digest.{Digest}
 use Rattle.fields.specs.Pages.{param_of}
 use Rattle.fields.proofs.PageLaws.{listed, param_page}
 use Rattle.manifest.specs.Reader.{read_manifest}

@@ -1,4 +1,6 @@
 // No code: what no event touches, and where a codeblock's code runs, each a promise.
+#![tactic(auto)]
+
 ghost use Rattle.integrity.specs.Monitor.{MonitorKept, MonitorUnseen};
 ghost use Rattle.integrity.specs.Code.{CodeKept, EnteredByCall, JumpsStay};
 

@@ -1,5 +1,7 @@
 // The rules on a manifest's fields, tested: each rule at one place, for the reader, the writer and the state's well-formedness.
 // The inner tests take arrays and counts, not the whole record, so that nothing is copied; runs and entries are gone over once each.
+#![tactic(auto)]
+
 ghost use Rattle.std.specs.Prelude.{◌≡◌, ◌&&◌, [], ◌≤◌, ◌<◌, leb, eqb};
 ghost use Rattle.lists.specs.Below.{pick, all_below};
 ghost use Rattle.fields.specs.Fields.{fields_of, end_of};

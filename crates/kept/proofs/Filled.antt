@@ -9,7 +9,7 @@ use lib.Seq.{sets, sets-eq}
 use Rattle.lists.specs.Bytes.{part}
 use Rattle.lists.proofs.Parts.{part_long}
 use Rattle.geometry.specs.Geometry.{slot_count, pcr_count, digest_size, is_range}
-use Rattle.sha1.specs.declared.Digest.{Digest}
+use Rattle.sha_1.specs.declared.Digest.{Digest}
 use Rattle.manifest.specs.Reader.{read_manifest}
 use Rattle.state.specs.declared.Mode.{Mode}
 use Rattle.state.specs.declared.Mode.TheVariants.{Legacy, Secure}

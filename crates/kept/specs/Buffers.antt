@@ -2,7 +2,7 @@
 use Rattle.std.specs.Prelude.{ℕ, ◌≤◌, ◌≡◌, List, [], ◌++◌, length, get_or, drop}
 use Rattle.lists.specs.Bytes.{part}
 use Rattle.geometry.specs.Geometry.{digest_size}
-use Rattle.sha1.specs.declared.Digest.{Digest}
+use Rattle.sha_1.specs.declared.Digest.{Digest}
 use Rattle.state.specs.declared.Mode.{Mode}
 use Rattle.state.specs.declared.Mode.TheVariants.{Legacy, Secure}
 use Rattle.state.specs.declared.State.{State}

@@ -1,4 +1,6 @@
 // No code: theorems about the rules, each a promise, so that none can go unnoticed.
+#![tactic(auto)]
+
 ghost use Rattle.kept.specs.Refusals.{RefusalsKeep, RefusalsNamed};
 ghost use Rattle.kept.specs.Buffers.{AnswersFill};
 

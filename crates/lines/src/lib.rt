@@ -1,4 +1,6 @@
 // One line of the program's input to a command (document 01, "The line program").
+#![tactic(auto)]
+
 mod fields;
 
 ghost use Rattle.std.specs.Prelude.{◌≡◌, Bool, true, List, ℕ, ◌≤◌, length};
@@ -11,7 +13,7 @@ use events::Event;
 use memory::Source;
 use numerals::Numeral;
 
-#[derive(Drop)]
+#[derive(Clone, Copy)]
 pub enum Verb {
     Reg,
     Unr,
@@ -57,7 +59,7 @@ fn verb_of(word: &[u8]) -> Verb
 }
 
 // How many fields a command has, how many of them are numbers, and whether a HEX follows these.
-#[derive(Drop)]
+#[derive(Clone, Copy)]
 pub struct Shape {
     pub fields: usize,
     pub numbers: usize,
@@ -95,7 +97,7 @@ fn shape_of(v: Verb) -> Shape
 }
 
 // The numbers of a line, 0 beyond them; whether each is one.
-#[derive(Drop)]
+#[derive(Clone, Copy)]
 pub struct Arguments {
     pub right: bool,
     pub first: u64,
@@ -188,7 +190,7 @@ fn arguments_of(line: &[u8], n: usize) -> Arguments
 }
 
 // What a line says: an event and how many payload bytes go with it.
-#[derive(Drop)]
+#[derive(Clone, Copy)]
 pub enum Line {
     Said { event: Event, length: usize },
     Unreadable,

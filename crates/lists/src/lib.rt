@@ -1,1 +1,2 @@
 // Definitions and laws over lists and counting loops; no code.
+#![tactic(auto)]

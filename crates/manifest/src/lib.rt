@@ -1,4 +1,6 @@
 // The manifest: read from the trailer backward, and written (document 01, "Manifest: body first, trailer last").
+#![tactic(auto)]
+
 mod parts; // the writer's parts
 
 ghost use Rattle.std.specs.Prelude.{◌≡◌, ◌+◌, ◌*◌, ◌≤◌, ◌<◌, length, get_or};
@@ -35,33 +37,33 @@ const NO_ENTRY: Entry = Entry {
     output: 0,
 };
 
-#[derive(Drop)]
+#[derive(Clone, Copy)]
 pub struct Counts {
     pub r: usize,
     pub e: usize,
 }
 
 // How many bytes were written, or the number of the refusal.
-#[derive(Drop)]
+#[derive(Clone, Copy)]
 pub enum Written {
     Bytes(usize),
     Refused(u8),
 }
 
 // The answers of a manifest's fields.
-#[derive(Drop)]
+#[derive(Clone, Copy)]
 pub enum TrailerRead {
     Is(Counts),
     Bad,
 }
 
-#[derive(Drop)]
+#[derive(Clone, Copy)]
 pub enum EntryRead {
     Is(Entry),
     Bad,
 }
 
-#[derive(Drop)]
+#[derive(Clone, Copy)]
 pub enum RunRead {
     Is(Run),
     Bad,
@@ -69,7 +71,7 @@ pub enum RunRead {
 
 // 0 and the fields, or the number of the refusal and all zero.
 #[repr(C)]
-#[derive(Drop)]
+#[derive(Clone, Copy)]
 pub struct Reading {
     pub refusal: u8,
     pub fields: Fields,

@@ -1,4 +1,6 @@
 // The manifest's reader and writer for C. They ask nothing of their caller beyond what C owes (host/monitor.h).
+#![tactic(auto)]
+
 ghost use Rattle.std.specs.Prelude.{◌≡◌};
 ghost use Rattle.manifest.specs.Reader.{read_manifest};
 ghost use Rattle.twin.specs.Asked.{answered};

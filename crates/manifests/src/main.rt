@@ -1,5 +1,7 @@
 // Reads manifests from standard input, each in 256 bytes: its length, itself, and zeros. For each it writes the reader's number, and behind 0 the 112 bytes of a
 // zeroed buffer to which the fields were written again. tests/manifests.sh compares both with a second reader.
+#![tactic(auto)]
+
 ghost use Rattle.std.specs.Prelude.{◌<◌};
 
 use fields::Fields;

@@ -1,4 +1,6 @@
 // What is done to lent bytes: pages zeroed, bytes moved, put and given, and the part of one of two lent slices.
+#![tactic(auto)]
+
 ghost use Rattle.std.specs.Prelude.{◌≡◌, [], ◌∷◌, ◌+◌, ◌≤◌, length};
 ghost use Rattle.std.proofs.lemmas.List.Edits.{sets};
 ghost use Rattle.lists.specs.Bytes.{part, zeros, counted, wipe};
@@ -78,7 +80,7 @@ pub fn give_bytes(memory: &[u8], at: usize, n: usize, buffer: &mut [u8])
 }
 
 // Where the bytes of an extend lie.
-#[derive(Drop)]
+#[derive(Clone, Copy)]
 pub enum Source {
     Payload,
     Memory,

@@ -1,4 +1,6 @@
 // The monitor: one event, the state by value, lent memory and a lent answer buffer; the answer and the next state.
+#![tactic(auto)]
+
 ghost use Rattle.std.specs.Prelude.{◌≡◌};
 ghost use Rattle.rules.specs.Act as rules;
 ghost use Rattle.decide.specs.Allowed.{out_of};

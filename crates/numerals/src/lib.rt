@@ -1,4 +1,6 @@
 // Numbers and bytes as text: "decimal u64 without leading zeros; HEX is lower-case pairs or `-` for none" (document 01, "The line program").
+#![tactic(auto)]
+
 ghost use Rattle.std.specs.Prelude.{◌≡◌, Bool, true, List, ℕ, ◌+◌, ◌*◌, ◌/◌, ◌%◌, ◌≤◌, ◌<◌, length, drop};
 ghost use Rattle.std.proofs.lemmas.List.Edits.{sets};
 ghost use Rattle.numerals.specs.Decimal.{digit_value, more_of, number_of, decimal};
@@ -20,7 +22,7 @@ pub fn place_of(text: &[u8], c: u8) -> usize
 }
 
 // A number read, or not one: then its value is 0.
-#[derive(Drop)]
+#[derive(Clone, Copy)]
 pub struct Numeral {
     pub right: bool,
     pub value: u64,
@@ -178,7 +180,7 @@ pub fn put_pairs(bytes: &[u8], out: &mut [u8], at: usize)
 }
 
 // A number's digits at the end of twenty bytes.
-#[derive(Drop)]
+#[derive(Clone, Copy)]
 struct Digits {
     bytes: [u8; 20],
     from: usize,

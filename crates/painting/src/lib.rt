@@ -1,4 +1,6 @@
 // Tables of pages: painted with what runs say, and compared. Written so that a compiler makes fills and wide compares of the loops.
+#![tactic(auto)]
+
 ghost use Rattle.std.specs.Prelude.{◌≡◌, ℕ, ◌≤◌, ◌+◌, eqb};
 ghost use Rattle.lists.specs.Below.{all_below};
 ghost use Rattle.geometry.specs.Geometry.{most_pages};

@@ -12,7 +12,7 @@ use borrow.Author.Tests.{ltb-true, eqb-true}
 use Rattle.lists.proofs.First.{first_at}
 use Rattle.lists.proofs.Logic.{and_l}
 use Rattle.geometry.specs.Geometry.{slot_count}
-use Rattle.sha1.specs.declared.Digest.{Digest}
+use Rattle.sha_1.specs.declared.Digest.{Digest}
 use Rattle.fields.specs.Rules.{keeps_rules}
 use Rattle.manifest.specs.declared.Reading.{Reading}
 use Rattle.state.specs.declared.Card.{Card}

@@ -9,7 +9,7 @@ use Rattle.lists.specs.Bytes.{part}
 use Rattle.lists.proofs.Pages.{wipe_long}
 use Rattle.lists.proofs.Tables.{table_long}
 use Rattle.geometry.specs.Geometry.{page_size, slot_count, start_of}
-use Rattle.sha1.specs.declared.Digest.{Digest}
+use Rattle.sha_1.specs.declared.Digest.{Digest}
 use Rattle.manifest.specs.Reader.{read_manifest}
 use Rattle.manifest.proofs.Accepts.{read_keeps}
 use Rattle.state.specs.declared.State.{State}

@@ -1,4 +1,6 @@
 // No code: well-formedness is kept, as a promise.
+#![tactic(auto)]
+
 ghost use Rattle.preserved.specs.Preserved.{StaysWellFormed};
 
 // Every event takes a well-formed state to a well-formed state, with its memory.

@@ -6,8 +6,8 @@
 -- same books, the same bytes in memory. After each event the books are still in order, so the promise holds for the next event too, for as long as the
 -- machine runs. And a codeblock's description says the same thing whether you look at its bytes or at its fields: there is no second way to write it.
 use Rattle.std.specs.Prelude.{◌≡◌}
-use Rattle.sha1.specs.Sha1.{sha1}
-use Rattle.sha1.proofs.hash as hash
+use Rattle.sha_1.specs.Sha1.{sha1}
+use Rattle.sha_1.proofs.hash as hash
 use Rattle.round.specs.Round.{ReadThenWritten, WrittenThenRead}
 use Rattle.start.specs.Start.{start_of}
 use Rattle.start.specs.Promise.{Accepts}

@@ -1,4 +1,6 @@
 // The three demands, as three promises. Open specs/First, Second and Third: each has the demand's words, a paragraph in plain ones, and its parts.
+#![tactic(auto)]
+
 ghost use Rattle.promises.specs.First.{EveryInputAnswered};
 ghost use Rattle.promises.specs.Second.{AsTheRulesSay};
 ghost use Rattle.promises.specs.Third.{KeptApart};

@@ -1,4 +1,6 @@
 // The manifest's round trips. Each function pins one theorem about the definitions: without its proof this crate is not proved.
+#![tactic(auto)]
+
 ghost use Rattle.round.specs.Round.{ReadThenWritten, WrittenThenRead, AcceptsExactly, OneSpelling, Lengths};
 
 // An accepted manifest, read and written again, gives the same bytes.

@@ -1,3 +1,5 @@
+#![tactic(auto)]
+
 ghost use Rattle.std.specs.Prelude.{◌≡◌, length};
 ghost use Rattle.rounds.specs.Word as Word;
 ghost use Rattle.blocks.specs.Blocks.{block_size};
@@ -18,7 +20,7 @@ const SECOND: usize = 2 * QUARTER;
 const THIRD: usize = 3 * QUARTER;
 
 #[repr(C)]
-#[derive(Drop)]
+#[derive(Clone, Copy)]
 pub struct Words {
     pub a: u32,
     pub b: u32,

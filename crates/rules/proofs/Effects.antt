@@ -16,7 +16,7 @@ use Rattle.memory.specs.declared.Source.{Source}
 use Rattle.memory.specs.declared.Source.TheVariants.{Payload, Memory}
 use Rattle.memory.specs.Source.{chosen_of}
 use Rattle.fields.proofs.PageLaws.{listed}
-use Rattle.sha1.specs.declared.Digest.{Digest}
+use Rattle.sha_1.specs.declared.Digest.{Digest}
 use Rattle.state.specs.declared.Card.{Card}
 use Rattle.state.specs.Zero.{no_pcr}
 use Rattle.state.specs.Face.{Face, pcrs_of, card_at, owner_at, card_of, pcrs_in}

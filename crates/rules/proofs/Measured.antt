@@ -7,7 +7,7 @@ use lib.ListN.{length-set, get_or-replicate}
 use lib.Seq.{get_or-set_same, get_or-set_other}
 use Rattle.lists.specs.Bytes.{zeros}
 use Rattle.geometry.specs.Geometry.{pcr_count}
-use Rattle.sha1.specs.declared.Digest.{Digest}
+use Rattle.sha_1.specs.declared.Digest.{Digest}
 use Rattle.state.specs.Zero.{zero_pcr, no_pcr}
 use Rattle.rules.specs.Act.{zero_pcrs, measured, extended}
 use Rattle.rules.specs.Measures.{Measures, Extends, PcrsRight}

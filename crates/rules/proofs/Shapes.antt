@@ -6,7 +6,7 @@ use mathlib.Core.List.{List, []}
 use lib.ListN.{length, get_or, get_or-eq_default}
 use Rattle.lists.proofs.Logic.{lt_or_ge}
 use Rattle.geometry.specs.Geometry.{slot_count, digest_size}
-use Rattle.sha1.specs.declared.Digest.{Digest}
+use Rattle.sha_1.specs.declared.Digest.{Digest}
 use Rattle.state.specs.declared.State.{State}
 use Rattle.state.specs.Zero.{no_pcr, no_slot}
 use Rattle.state.specs.Face.{pcrs_of}

@@ -10,9 +10,9 @@ use Rattle.lists.proofs.Logic.{lt_or_ge}
 use Rattle.lists.proofs.Tables.{table_long, table_at, table_same}
 use Rattle.geometry.specs.Geometry.{most_pages, slot_count, pcr_count, digest_size}
 use Rattle.memory.specs.Source.{chosen_of}
-use Rattle.sha1.specs.declared.Digest.{Digest}
-use Rattle.sha1.specs.Sha1.{sha1}
-use Rattle.sha1.proofs.Holds.{sha1_long}
+use Rattle.sha_1.specs.declared.Digest.{Digest}
+use Rattle.sha_1.specs.Sha1.{sha1}
+use Rattle.sha_1.proofs.Holds.{sha1_long}
 use Rattle.state.specs.declared.Slot.{Slot}
 use Rattle.state.specs.Zero.{zero_pcr, no_pcr, no_card, no_slot}
 use Rattle.state.specs.Face.{Face, face_of, pcrs_of, state_of, slot_of, card_at, card_of, pcrs_in}

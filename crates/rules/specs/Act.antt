@@ -4,8 +4,8 @@ use Rattle.std.proofs.lemmas.List.Edits.{sets}
 use Rattle.lists.specs.Bytes.{part, wipe, gather}
 use Rattle.geometry.specs.Geometry.{page_size, pcr_count}
 use Rattle.memory.specs.Source.{chosen_of}
-use Rattle.sha1.specs.declared.Digest.{Digest}
-use Rattle.sha1.specs.Sha1.{sha1}
+use Rattle.sha_1.specs.declared.Digest.{Digest}
+use Rattle.sha_1.specs.Sha1.{sha1}
 use Rattle.manifest.specs.Reader.{read_manifest}
 use Rattle.state.specs.declared.State.{State}
 use Rattle.state.specs.Zero.{zero_pcr, no_pcr}

@@ -2,8 +2,8 @@
 use Rattle.std.specs.Prelude.{ℕ, ◌≤◌, ◌<◌, ◌≡◌, ◌≢◌, List, ◌++◌, length, get_or}
 use Rattle.lists.specs.Bytes.{zeros}
 use Rattle.geometry.specs.Geometry.{digest_size, pcr_count}
-use Rattle.sha1.specs.declared.Digest.{Digest}
-use Rattle.sha1.specs.Sha1.{sha1}
+use Rattle.sha_1.specs.declared.Digest.{Digest}
+use Rattle.sha_1.specs.Sha1.{sha1}
 use Rattle.state.specs.Zero.{no_pcr}
 use Rattle.rules.specs.Act.{measured, extended}
 

@@ -1,4 +1,6 @@
 // The rules of the eleven events, as definitions; no code but the promises.
+#![tactic(auto)]
+
 ghost use Rattle.rules.specs.Isolation.{Isolation, Shaped};
 ghost use Rattle.rules.specs.Measures.{PcrsRight};
 ghost use Rattle.rules.specs.Calls.{CallsChecked};

@@ -1,10 +1,12 @@
 // The hash of one part, for C to link: the benchmark of SHA-1.
+#![tactic(auto)]
+
 ghost use Rattle.std.specs.Prelude.{◌≡◌};
-ghost use Rattle.sha1.specs.Sha1 as Sha1;
+ghost use Rattle.sha_1.specs.Sha1 as Sha1;
 
 #[unsafe(no_mangle)]
-pub extern "C" fn sha1_hash(part: &[u8]) -> sha1::Digest
+pub extern "C" fn sha1_hash(part: &[u8]) -> sha_1::Digest
     ensures { result.bytes ≡ Sha1.sha1 part.now }
 {
-    sha1::hash(part)
+    sha_1::hash(part)
 }

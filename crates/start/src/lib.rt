@@ -1,4 +1,6 @@
 // Start: the fresh state of P pages, M of them the monitor's (document 01, "Machine and numbers").
+#![tactic(auto)]
+
 ghost use Rattle.std.specs.Prelude.{◌≡◌, ◌≤◌, ◌<◌, ◌+◌};
 ghost use Rattle.lists.specs.Below.{table};
 ghost use Rattle.geometry.specs.Geometry.{most_pages};
@@ -12,7 +14,7 @@ use state::{Mode, Running, Slot, State};
 const OUT_OF_RANGE: u8 = 4;
 
 // A state, or the number of the refusal; 0 is none.
-#[derive(Drop)]
+#[derive(Clone, Copy)]
 pub struct Started {
     pub refusal: u8,
     pub state: State,

@@ -1,11 +1,13 @@
 // Start for C, over a lent state. It asks nothing of its caller beyond what C owes (host/monitor.h).
+#![tactic(auto)]
+
 ghost use Rattle.std.specs.Prelude.{◌≡◌};
 ghost use Rattle.start_c.specs.Start.{host_start};
 
 use twin::Monitor;
 
 // What start gives: a state, and 0 or the refusal.
-#[derive(Drop)]
+#[derive(Clone, Copy)]
 pub struct Begun {
     pub monitor: Monitor,
     pub number: u8,

@@ -9,7 +9,7 @@ use lib.Seq.{ext_get_or, get_or-set_same, get_or-set_other}
 use Rattle.lists.specs.Below.{table}
 use Rattle.lists.proofs.Tables.{table_long, table_at, table_same, table_of, map_table}
 use Rattle.geometry.specs.Geometry.{slot_count}
-use Rattle.sha1.specs.declared.Digest.{Digest}
+use Rattle.sha_1.specs.declared.Digest.{Digest}
 use Rattle.state.specs.declared.Card.{Card}
 use Rattle.state.specs.declared.Slot.{Slot}
 use Rattle.state.specs.declared.State.{State}

@@ -10,7 +10,7 @@ use denote.Array.{each}
 use denote.Struct.Field.{Field, array_field, u8-field}
 use denote.Struct.Declared.{row}
 use Rattle.geometry.specs.Geometry.{most_pages, slot_count, pcr_count, digest_size}
-use Rattle.sha1.specs.declared.Digest.{Digest}
+use Rattle.sha_1.specs.declared.Digest.{Digest}
 use Rattle.fields.specs.declared.Run.{Run}
 use Rattle.fields.specs.declared.Entry.{Entry}
 use Rattle.fields.specs.declared.Fields.{Fields}
@@ -23,7 +23,7 @@ use Rattle.state.proofs.Shape.{Each, Byte, RunShape, EntryShape, FieldsShape, Di
 use Rattle.fields.specs.contracts.Run as run
 use Rattle.fields.specs.contracts.Entry as entry
 use Rattle.fields.specs.contracts.Fields as fields
-use Rattle.sha1.specs.contracts.Digest as digest
+use Rattle.sha_1.specs.contracts.Digest as digest
 use Rattle.state.specs.contracts.Card as card
 use Rattle.state.specs.contracts.Slot as slot
 use Rattle.state.specs.contracts.Running as running

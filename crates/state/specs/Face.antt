@@ -2,7 +2,7 @@
 use Rattle.std.specs.Prelude.{ℕ, ◌-◌, Bool, ◌&&◌, List, [], map, get_or, ltb, eqb}
 use Rattle.lists.specs.Below.{table}
 use Rattle.geometry.specs.Geometry.{slot_count}
-use Rattle.sha1.specs.declared.Digest.{Digest}
+use Rattle.sha_1.specs.declared.Digest.{Digest}
 use Rattle.state.specs.declared.Card.{Card}
 use Rattle.state.specs.declared.Slot.{Slot}
 use Rattle.state.specs.declared.Mode.{Mode}

@@ -1,7 +1,7 @@
 -- Zero values of the state's parts, and what a read past the end of an array gives.
 use Rattle.std.specs.Prelude.{false, [], replicate}
 use Rattle.geometry.specs.Geometry.{slot_count, pcr_count, digest_size, most_pages}
-use Rattle.sha1.specs.declared.Digest.{Digest}
+use Rattle.sha_1.specs.declared.Digest.{Digest}
 use Rattle.fields.specs.Fields.{zero_fields, no_fields}
 use Rattle.state.specs.declared.Card.{Card}
 use Rattle.state.specs.declared.Slot.{Slot}

@@ -1,4 +1,6 @@
 // The monitor's state, by value (document 01, "Machine and numbers").
+#![tactic(auto)]
+
 ghost use Rattle.std.specs.Prelude.{◌≡◌, ◌<◌};
 ghost use Rattle.state.specs.Zero.{zero_slot};
 ghost use Rattle.geometry.specs.Geometry.{pcr_count};
@@ -6,11 +8,11 @@ ghost use Rattle.state.specs.Slots.{entry_found, extended_slot};
 
 use fields::{Entry, Fields, Run};
 use geometry::Geometry;
-use sha1::Digest;
+use sha_1::Digest;
 
 // What is public of a slot.
 #[repr(C)]
-#[derive(Drop)]
+#[derive(Clone, Copy)]
 pub struct Card {
     pub registered: bool,
     pub mark: u64,
@@ -18,13 +20,13 @@ pub struct Card {
 }
 
 #[repr(C)]
-#[derive(Drop)]
+#[derive(Clone, Copy)]
 pub struct Slot {
     pub card: Card,
     pub pcrs: [Digest; Geometry::PCRS],
 }
 
-#[derive(Drop)]
+#[derive(Clone, Copy)]
 pub enum Mode {
     Legacy,
     Secure(usize),
@@ -32,7 +34,7 @@ pub enum Mode {
 
 // The running call: its slot, and where its output goes.
 #[repr(C)]
-#[derive(Drop)]
+#[derive(Clone, Copy)]
 pub struct Running {
     pub slot: usize,
     pub out: usize,
@@ -41,7 +43,7 @@ pub struct Running {
 
 // P pages, of which the top M are kept for the monitor.
 #[repr(C)]
-#[derive(Drop)]
+#[derive(Clone, Copy)]
 pub struct State {
     pub pages: usize,
     pub kept: usize,
@@ -52,7 +54,7 @@ pub struct State {
 }
 
 // The entry that has an address, if one has it.
-#[derive(Drop)]
+#[derive(Clone, Copy)]
 pub enum Found {
     At(Entry),
     Nothing,
@@ -105,7 +107,7 @@ impl Slot {
     {
         let mut t = self;
         let old = t.pcrs[index];
-        let new = sha1::hash_pair(old, digest);
+        let new = sha_1::hash_pair(old, digest);
         t.pcrs[index] = new;
         t
     }

@@ -1,4 +1,6 @@
 // The running call's record at the host's two switch points: "entering and leaving, it is lent and updated where it stands" (document 01).
+#![tactic(auto)]
+
 ghost use Rattle.std.specs.Prelude.{◌≡◌};
 ghost use Rattle.state.specs.Zero.{zero_running};
 ghost use Rattle.rules.specs.Tests.{kept_as};
@@ -7,7 +9,7 @@ ghost use Rattle.switch.specs.Record.{entered_record, left_of, CallEnters, Retur
 use state::Running;
 
 // What leaving hands out: the record as it was, which Return needs, and what stands in its place.
-#[derive(Drop)]
+#[derive(Clone, Copy)]
 pub struct Left {
     pub was: Running,
     pub rest: Running,

@@ -1,7 +1,7 @@
 -- A plan carried out by code.
 use Rattle.std.specs.Prelude.{ℕ, ◌≡◌, Bool, List, length, get_or}
 use Rattle.geometry.specs.Geometry.{page_of}
-use Rattle.sha1.specs.declared.Digest.{Digest}
+use Rattle.sha_1.specs.declared.Digest.{Digest}
 use Rattle.state.specs.declared.Mode.{Mode}
 use Rattle.state.specs.declared.Mode.TheVariants.{Secure}
 use Rattle.state.specs.declared.Slot.{Slot}

@@ -1,4 +1,6 @@
 // The events that leave the state as it is: read, write, the device's, µPCR read; and the page rule.
+#![tactic(auto)]
+
 use events::Answer;
 use state::State;
 
@@ -8,7 +10,7 @@ pub mod write; // Write, Device write
 pub mod pcr_read; // µPCR read
 
 // An event's answer, and the state after it.
-#[derive(Drop)]
+#[derive(Clone, Copy)]
 pub struct Stepped {
     pub answer: Answer,
     pub state: State,

@@ -1,4 +1,6 @@
 // The state, events and answers as C hands them over: numbers and arrays, no enum. What crosses, and how it is read here.
+#![tactic(auto)]
+
 ghost use Rattle.std.specs.Prelude.{◌≡◌};
 ghost use Rattle.twin.specs.Twin.{mode_of, number_of, opened_of, shut_of};
 ghost use Rattle.twin.specs.Asked.{extend_by, extend_as, asked_of, reply as replyWith, reply_of, unknown_reply};
@@ -11,7 +13,7 @@ use state::{Mode, Running, Slot, State};
 
 // The state's twin: the mode is a number, 0 legacy, n + 1 secure in slot n.
 #[repr(C)]
-#[derive(Drop)]
+#[derive(Clone, Copy)]
 pub struct Monitor {
     pub pages: usize,
     pub kept: usize,
@@ -23,7 +25,7 @@ pub struct Monitor {
 
 // An event: its kind, and the numbers of all kinds, of which each kind has its own.
 #[repr(C)]
-#[derive(Drop)]
+#[derive(Clone, Copy)]
 pub struct Request {
     pub kind: usize,
     pub mark: u64,
@@ -38,7 +40,7 @@ pub struct Request {
 
 // An answer: the number given for no, or 0; its kind, and its value.
 #[repr(C)]
-#[derive(Drop)]
+#[derive(Clone, Copy)]
 pub struct Reply {
     pub number: u8,
     pub kind: u8,
@@ -46,7 +48,7 @@ pub struct Reply {
 }
 
 // A request that names an event, or none.
-#[derive(Drop)]
+#[derive(Clone, Copy)]
 pub enum Asked {
     Known(Event),
     Unknown,

@@ -2,7 +2,7 @@
 use mathlib.Core.Path.{◌≡◌, refl, sym, ◌∙◌}
 use mathlib.Core.List.{List}
 use Prim.Native.Nat.{ℕ}
-use Rattle.sha1.specs.declared.Digest.{Digest}
+use Rattle.sha_1.specs.declared.Digest.{Digest}
 use Rattle.rules.specs.Plan.{Plan}
 use Rattle.touch.specs.declared.Stepped.{Stepped}
 use Rattle.touch.specs.Carried.{Steps}

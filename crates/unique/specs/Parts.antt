@@ -16,11 +16,11 @@ use Rattle.memory.proofs.chosen as memory_chosen
 use Rattle.blocks.proofs.word as blocks_word
 use Rattle.blocks.proofs.ending as blocks_ending
 use Rattle.rounds.proofs.compress as rounds_compress
-use Rattle.sha1.proofs.start as sha1_start
-use Rattle.sha1.proofs.taken as sha1_taken
-use Rattle.sha1.proofs.finished as sha1_finished
-use Rattle.sha1.proofs.hash as sha1_hash
-use Rattle.sha1.proofs.hash_pair as sha1_hash_pair
+use Rattle.sha_1.proofs.start as sha1_start
+use Rattle.sha_1.proofs.taken as sha1_taken
+use Rattle.sha_1.proofs.finished as sha1_finished
+use Rattle.sha_1.proofs.hash as sha1_hash
+use Rattle.sha_1.proofs.hash_pair as sha1_hash_pair
 use Rattle.fields.proofs.Fields.places as fields_places
 use Rattle.keeps.proofs.counts_right as keeps_counts_right
 use Rattle.keeps.proofs.run_end as keeps_run_end

@@ -1,4 +1,6 @@
 // No code: that each public contract leaves one outcome for each input, as promises.
+#![tactic(auto)]
+
 ghost use Rattle.unique.specs.Parts.{Parts};
 ghost use Rattle.unique.specs.Events.{Events};
 ghost use Rattle.unique.specs.Lines.{Lines};

@@ -4,6 +4,8 @@
 //   byte 0       the command, a letter
 //   bytes 2, 3   how many bytes the part has, most first
 //   bytes 12 on  a digest, or the name of a line, with spaces
+#![tactic(auto)]
+
 ghost use Rattle.std.specs.Prelude.{◌<◌, ◌≤◌, length};
 
 use geometry::Geometry;
@@ -14,15 +16,15 @@ const HEADER: usize = 32;
 // Where the third of three digests begins.
 const THIRD: usize = 2 * Geometry::DIGEST;
 
-#[derive(Drop)]
+#[derive(Clone, Copy)]
 struct Run {
-    hashing: sha1::Hashing,
-    digest: sha1::Digest,
+    hashing: sha_1::Hashing,
+    digest: sha_1::Digest,
     count: u64,
     wrong: u64,
 }
 
-#[derive(Drop)]
+#[derive(Clone, Copy)]
 struct Header {
     bytes: [u8; HEADER],
     whole: bool,
@@ -43,17 +45,17 @@ fn wide(x: u8) -> usize
     x as usize
 }
 
-fn digest_in(h: [u8; HEADER]) -> sha1::Digest {
+fn digest_in(h: [u8; HEADER]) -> sha_1::Digest {
     let mut b = [0u8; Geometry::DIGEST];
     let mut i: usize = 0;
     while i < Geometry::DIGEST {
         b[i] = h[12 + i];
         i += 1;
     }
-    sha1::Digest { bytes: b }
+    sha_1::Digest { bytes: b }
 }
 
-fn is_same(x: sha1::Digest, y: sha1::Digest) -> bool {
+fn is_same(x: sha_1::Digest, y: sha_1::Digest) -> bool {
     let p = x.bytes;
     let q = y.bytes;
     let mut ok = true;
@@ -65,7 +67,7 @@ fn is_same(x: sha1::Digest, y: sha1::Digest) -> bool {
     ok
 }
 
-fn three(x: sha1::Digest, y: sha1::Digest, z: sha1::Digest) -> [u8; 3 * Geometry::DIGEST] {
+fn three(x: sha_1::Digest, y: sha_1::Digest, z: sha_1::Digest) -> [u8; 3 * Geometry::DIGEST] {
     let p = x.bytes;
     let q = y.bytes;
     let r = z.bytes;
@@ -80,13 +82,13 @@ fn three(x: sha1::Digest, y: sha1::Digest, z: sha1::Digest) -> [u8; 3 * Geometry
     b
 }
 
-fn hash_three(x: sha1::Digest, y: sha1::Digest, z: sha1::Digest) -> sha1::Digest {
+fn hash_three(x: sha_1::Digest, y: sha_1::Digest, z: sha_1::Digest) -> sha_1::Digest {
     let b = three(x, y, z);
-    sha1::hash(&b)
+    sha_1::hash(&b)
 }
 
 // One checkpoint of NIST's Monte Carlo test.
-fn thousand(seed: sha1::Digest) -> sha1::Digest {
+fn thousand(seed: sha_1::Digest) -> sha_1::Digest {
     let mut x = seed;
     let mut y = seed;
     let mut z = seed;
@@ -101,7 +103,7 @@ fn thousand(seed: sha1::Digest) -> sha1::Digest {
     z
 }
 
-fn with_digest(r: Run, d: sha1::Digest) -> Run {
+fn with_digest(r: Run, d: sha_1::Digest) -> Run {
     let k = r.hashing;
     Run {
         hashing: k,
@@ -111,7 +113,7 @@ fn with_digest(r: Run, d: sha1::Digest) -> Run {
     }
 }
 
-fn with_hashing(r: Run, k: sha1::Hashing) -> Run {
+fn with_hashing(r: Run, k: sha_1::Hashing) -> Run {
     let d = r.digest;
     Run {
         hashing: k,
@@ -132,14 +134,14 @@ fn with_counts(r: Run, count: u64, wrong: u64) -> Run {
     }
 }
 
-fn compared(r: Run, d: sha1::Digest) -> Run {
+fn compared(r: Run, d: sha_1::Digest) -> Run {
     let wrong = if is_same(r.digest, d) { 0 } else { 1 };
     let count = std::num::wrapping_add_u64(r.count, 1);
     let all = std::num::wrapping_add_u64(r.wrong, wrong);
     with_counts(r, count, all)
 }
 
-fn line(r: Run, d: sha1::Digest) -> Run {
+fn line(r: Run, d: sha_1::Digest) -> Run {
     let name = d.bytes;
     io::write_all(STDOUT_FILENO, &name);
     io::print_decimal(STDOUT_FILENO, r.count);
@@ -161,13 +163,13 @@ fn with_part(r: Run, kind: u8, n: usize) -> Run
     let mut space = io::large_buffer();
     fill(&mut space, n);
     if kind == b't' {
-        return with_hashing(r, sha1::taken(r.hashing, &space[..n]));
+        return with_hashing(r, sha_1::taken(r.hashing, &space[..n]));
     }
     if kind == b'f' {
-        let d = sha1::finished(r.hashing, &space[..n]);
-        return with_hashing(with_digest(r, d), sha1::start());
+        let d = sha_1::finished(r.hashing, &space[..n]);
+        return with_hashing(with_digest(r, d), sha_1::start());
     }
-    with_digest(r, sha1::hash(&space[..n]))
+    with_digest(r, sha_1::hash(&space[..n]))
 }
 
 fn stepped(r: Run, h: [u8; HEADER]) -> Run {
@@ -177,7 +179,7 @@ fn stepped(r: Run, h: [u8; HEADER]) -> Run {
         return with_digest(r, d);
     }
     if kind == b'p' {
-        return with_digest(r, sha1::hash_pair(r.digest, d));
+        return with_digest(r, sha_1::hash_pair(r.digest, d));
     }
     if kind == b'm' {
         return with_digest(r, thousand(r.digest));
@@ -192,9 +194,9 @@ fn stepped(r: Run, h: [u8; HEADER]) -> Run {
 }
 
 fn begun() -> Run {
-    let k = sha1::start();
+    let k = sha_1::start();
     let b = [0u8; Geometry::DIGEST];
-    let d = sha1::Digest { bytes: b };
+    let d = sha_1::Digest { bytes: b };
     Run {
         hashing: k,
         digest: d,

@@ -8,7 +8,7 @@ use borrow.Author.Tests.{eqb-true, eq-eqb}
 use Rattle.lists.proofs.Logic.{and_l, and_r, both, or_left, or_right, decided}
 use Rattle.lists.proofs.All.{all_at, all_of}
 use Rattle.geometry.specs.Geometry.{slot_count, start_of}
-use Rattle.sha1.specs.declared.Digest.{Digest}
+use Rattle.sha_1.specs.declared.Digest.{Digest}
 use Rattle.state.specs.declared.State.{State}
 use Rattle.state.specs.Face.{Face, face_of, pcrs_of, card_at}
 use Rattle.wellformed.specs.WellFormed.{memory_right, pcrs_zero, pcrs_right_at, pcrs_right, face_right, state_right, well_formed}

@@ -11,7 +11,7 @@ use Rattle.lists.specs.Below.{all_below}
 use Rattle.lists.proofs.Logic.{and_l, and_r}
 use Rattle.lists.proofs.All.{all_at}
 use Rattle.geometry.specs.Geometry.{pcr_count, digest_size}
-use Rattle.sha1.specs.declared.Digest.{Digest}
+use Rattle.sha_1.specs.declared.Digest.{Digest}
 use Rattle.fields.specs.declared.Run.{Run}
 use Rattle.fields.specs.declared.Entry.{Entry}
 use Rattle.fields.specs.declared.Fields.{Fields}

@@ -2,7 +2,7 @@
 use Rattle.std.specs.Prelude.{ℕ, ◌+◌, Bool, ◌&&◌, ◌||◌, List, [], get_or, leb, ltb, eqb}
 use Rattle.lists.specs.Below.{pick, all_below, any_below, first_below, sum_below}
 use Rattle.geometry.specs.Geometry.{least_pages, most_pages, slot_count, pcr_count, digest_size, is_range, page_of, start_of}
-use Rattle.sha1.specs.declared.Digest.{Digest}
+use Rattle.sha_1.specs.declared.Digest.{Digest}
 use Rattle.fields.specs.declared.Fields.{Fields}
 use Rattle.fields.specs.Fields.{run_places, entry_places, entry_at, run_at}
 use Rattle.fields.specs.Rules.{run_zero, entry_zero, keeps_rules}

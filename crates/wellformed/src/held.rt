@@ -10,7 +10,7 @@ ghost use Rattle.wellformed.specs.Tests.{slot_right};
 
 use fields::{Entry, Fields, Run};
 use geometry::Geometry;
-use sha1::Digest;
+use sha_1::Digest;
 use state::Slot;
 
 // ---- free slots: every place is unused, every byte zero

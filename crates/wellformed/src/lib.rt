@@ -1,5 +1,7 @@
 // Whether a state is well formed (document 01, "Machine and numbers"). Every event asks it, so it is written to be fast: one loop reads each slot once
 // and paints what it says into a table, and the table is compared with the owner table. The state stays in one function, since a callee would copy it.
+#![tactic(auto)]
+
 mod held; // what a slot holds
 mod running; // the mode and the running record
 
@@ -23,7 +25,7 @@ pub fn sizes_right(p: usize, m: usize) -> bool
 
 // ---- the whole
 // What an event looks at, handed out by the test so that the state is copied once: a slot, and the owners of two pages.
-#[derive(Drop)]
+#[derive(Clone, Copy)]
 pub struct Sight {
     pub right: bool,
     pub slot: Slot,
@@ -55,7 +57,7 @@ fn owner_of(owner: &[u8], page: usize) -> u8
 
 // ---- the test, in three steps, so that a state that is lent can be tested too
 // What the test has found so far, and the first of the monitor's pages.
-#[derive(Drop)]
+#[derive(Clone, Copy)]
 pub struct Test {
     pub right: bool,
     pub top: usize,

@@ -1,4 +1,6 @@
 // The well-formedness test for C, to be timed against a C program.
+#![tactic(auto)]
+
 ghost use Rattle.std.specs.Prelude.{◌≡◌};
 ghost use Rattle.wellformed.specs.WellFormed.{well_formed};
 ghost use Rattle.twin.specs.Twin.{opened_of};

@@ -1,7 +1,7 @@
 use Rattle.enroll.proofs.Gathered.{gather_turn, gather_end, taken_run, taken_cut}
-use Rattle.sha1.proofs.Holds.{holds_start}
-use Rattle.sha1.specs.Parts.{Holds}
-use Rattle.sha1.specs.declared.Hashing.{Hashing}
+use Rattle.sha_1.proofs.Holds.{holds_start}
+use Rattle.sha_1.specs.Parts.{Holds}
+use Rattle.sha_1.specs.declared.Hashing.{Hashing}
 use Rattle.fields.specs.Pages.{run_pages, pages_of}
 use Rattle.fields.specs.Fields.{fields_of, no_run}
 use Rattle.geometry.specs.Geometry.{page_size}

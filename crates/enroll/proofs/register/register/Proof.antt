@@ -10,7 +10,7 @@ use Rattle.events.specs.declared.Answer.TheVariants as answer
 use Rattle.state.proofs.Shaped.{state_shape}
 use Rattle.state.specs.Face.{face_of}
 use Rattle.manifest.specs.declared.Reading.{Reading}
-use Rattle.sha1.specs.Sha1.{sha1}
+use Rattle.sha_1.specs.Sha1.{sha1}
 use Rattle.geometry.specs.Geometry.{page_size, slot_count}
 use Rattle.lists.specs.Bytes.{gather}
 use Prim.Native.Nat.{ℕ}

@@ -5,7 +5,7 @@ use Rattle.rules.specs.Plan.{nothing}
 use Rattle.events.specs.declared.Answer.TheVariants as answer
 use Rattle.state.proofs.Shaped.{state_shape}
 use Rattle.state.specs.Face.{face_of}
-use Rattle.sha1.specs.Sha1.{sha1}
+use Rattle.sha_1.specs.Sha1.{sha1}
 use Rattle.memory.specs.Source.{chosen_of, InRange}
 use Rattle.geometry.specs.Geometry.{pcr_count}
 use lib.ListN.{length}

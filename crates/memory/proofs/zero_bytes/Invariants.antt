@@ -1,0 +1,14 @@
+use mathlib.Core.Path.{◌≡◌, refl}
+use Prim.Native.Nat.{◌≤◌, ◌-◌}
+use lib.Seq.{sets}
+use lib.ListN.{length, length-set}
+use Rattle.lists.specs.Bytes.{zeros}
+use Rattle.lists.proofs.Parts.{zero_turn}
+use native.Mathlib.Omega.{arith}
+use Rattle.memory.proofs.zero_bytes.Given as goal
+
+abbrev pub invariant-loop-i : goal.invariant-loop-i
+invariant-loop-i l = (l.i ≤ l.n) × (l.memory ≡ sets l.initial.memory l.at (zeros l.i)) × (length l.memory ≡ length l.initial.memory)
+
+abbrev pub decreases-loop-i : goal.decreases-loop-i
+decreases-loop-i l = l.n - l.i
