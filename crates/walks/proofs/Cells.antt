@@ -12,7 +12,7 @@ use lib.ListN.{length, get_or, set, length-set}
 use lib.Seq.{set-get_or}
 use lib.Dec.{T}
 use seplogic.Ra.Ura.{Ura}
-use seplogic.Ra.TreeShare.{full_share}
+use base.Fraction.{full_share}
 use mir.Syntax.{Ty, Local, local, ty_array, ty_bool}
 use mir.Raw.{raw as raw_ty}
 use mir.Val.{Val, vstruct, of_list}
@@ -117,10 +117,10 @@ module _ {M : Type 1} {𝓤 : Ura M} (𝓛 : Logic 𝓤) where
     elt = subst (λ (z : ℕ). Part K 𝓛 i q τ b z (get_or us k d) (λ u. back (with u))) (place_is (size τ) o k) at_place
 
 module _ {M : Type 1} {𝓤 : Ura M} (𝓛 : Logic 𝓤) (R : RattleType) (of : R.Denot → List Val) (tells : Tells R (Is R) of) (z : R.Denot) (b o : ℕ) where
-  pub lies : ent 𝓤 (sep 𝓤 (sem 𝓛 (cell_at full_share R.mir (of z) b o)) (sem 𝓛 (R.own z (of z)))) (sem 𝓛 ((mem R).own_at z b o))
+  pub lies : ent 𝓤 (sep 𝓤 (sem 𝓛 (cell_at full_share R.mir (of z) b o)) (sem 𝓛 (R.own_val z (of z)))) (sem 𝓛 ((mem R).own_at z b o))
   unfolding part_of
-  lies = qed 𝓛 (‵ (cell_at full_share R.mir (of z) b o) ∷ ‵ (R.own z (of z)) ∷ []) ∵ fjoin ! $ fpack ! (List Val) (λ us. fsep (cell_at full_share R.mir us b o) (R.own z us)) (of z) $ done !
+  lies = qed 𝓛 (‵ (cell_at full_share R.mir (of z) b o) ∷ ‵ (R.own_val z (of z)) ∷ []) ∵ fjoin ! $ fpack ! (List Val) (λ us. fsep (cell_at full_share R.mir us b o) (R.own_val z us)) (of z) $ done !
 
-  pub found : ent 𝓤 (sem 𝓛 ((mem R).own_at z b o)) (sep 𝓤 (sem 𝓛 (cell_at full_share R.mir (of z) b o)) (sem 𝓛 (R.own z (of z))))
+  pub found : ent 𝓤 (sem 𝓛 ((mem R).own_at z b o)) (sep 𝓤 (sem 𝓛 (cell_at full_share R.mir (of z) b o)) (sem 𝓛 (R.own_val z (of z))))
   unfolding part_of
   found = qed 𝓛 (‵ ((mem R).own_at z b o) ∷ []) ∵ fpick ! (λ vs. fsplit ! $ spelt ! R (Is R) (shows 𝓛 R) of tells full_share z vs b o $ frame ! $ done !)
