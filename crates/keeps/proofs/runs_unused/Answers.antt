@@ -1,0 +1,25 @@
+use borrow.Author.Tests.{lt-ltb, le-ltb}
+use lib.Dec.{eqb}
+use mathlib.Core.Bool.{◌&&◌}
+use mathlib.Core.List.{[]}
+use mathlib.Core.Path.{◌≡◌, sym}
+use Prim.Native.Nat.{◌≤◌, ◌-◌}
+use native.Mathlib.Omega.{arith}
+use Rattle.lists.specs.Below.{all_below}
+use Rattle.lists.proofs.All.{all_end, all_of}
+use Rattle.fields.specs.Fields.{fields_of, run_at}
+use Rattle.fields.specs.Rules.{run_free_at}
+use Rattle.keeps.proofs.Passes.{zeros_step}
+use Rattle.keeps.proofs.runs_unused.Goals as goal
+
+pub loop-i-init : goal.loop-i-init
+loop-i-init c = ((omega arith, omega arith), sym (all_of _ c.args.r (λ i h. rw (lt-ltb i c.args.r h))))
+
+pub loop-i-preserved : goal.loop-i-preserved
+loop-i-preserved c =
+    let l = c in
+    let a = l.args in
+    let f = fields_of a.r 0 a.runs [] in
+    let x = run_at f l.loop-i.i in
+    let e : eqb x.kind 0 && (eqb x.count 0 && eqb x.first 0) ≡ run_free_at f l.loop-i.i = rw (le-ltb l.loop-i.i a.r l.loop-i.invariant.0.0) in
+    ((omega arith, omega arith), zeros_step (run_free_at f) l.loop-i.i l.loop-i.kind l.loop-i.count l.loop-i.first x.kind x.count x.first l.loop-i.invariant.1 e)
