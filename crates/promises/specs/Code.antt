@@ -7,14 +7,22 @@ use Rattle.std.specs.Prelude.{◌≡◌}
 use contract.Lifetimes.{Lfts}
 use denote.Triple.Entry.{Args, Res}
 use denote.Triple.Clauses.{Ended, Lasts, AtExit, at_exit}
+use base.Logic.{emp}
+use borrow.Fn.World.{Pr, w₀}
+use borrow.Fn.Read.{ReadAt, r_last, no_know}
+use borrow.Fn.Claims.{AllOf}
 use Rattle.rules.specs.Act.{World, Out}
 use Rattle.preserved.specs.Preserved.{Ask}
 use Rattle.decide.specs.Allowed.{out_of}
-use Rattle.monitor.proofs.step as code
+use Rattle.monitor.specs.contracts.step as code
+
+-- what whoever has an assertion learns of it, by a reading of the toolchain's
+abbrev pub told : (P : Pr w₀) → ReadAt w₀ (λ w. emp w.𝓤) no_know P → Type 0
+told P reading = AllOf reading.tells
 
 -- the code was called with this state, memory, event, payload and buffer, did what its contract says, and left o
 pub record Called (w : World) (x : Ask) (o : Out) : Type 0 where
-  pub lifetimes : Lfts (code.signature).lifetimes
+  pub lifetimes : Lfts code.signature.lifetimes
   pub arguments : Args code.signature lifetimes
   pub result : Res code.signature lifetimes
   pub lasts : Lasts code.ended lifetimes arguments
@@ -23,7 +31,7 @@ pub record Called (w : World) (x : Ask) (o : Out) : Type 0 where
   pub state : arguments.1.1.0 ≡ w.state
   pub memory : arguments.1.1.1.0.now ≡ w.memory
   pub buffer : arguments.1.1.1.1.0.now ≡ x.buffer
-  pub does : code.Reads.Learnt lifetimes arguments result (at_exit code.ended lifetimes arguments lasts)
+  pub does : told ((code.clauses w₀.𝓛 w₀.𝓜.mem w₀.𝓡.run lifetimes arguments).ensures tt result (at_exit code.ended lifetimes arguments lasts)) (r_last _)
   pub leaves : out_of result lasts.1.1.1.0 lasts.1.1.1.1.0 ≡ o
 
 module _ (T : Ended) where

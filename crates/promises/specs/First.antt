@@ -9,30 +9,32 @@ use Rattle.geometry.specs.Geometry.{slot_count}
 use Rattle.fields.specs.declared.Fields.{Fields}
 use Rattle.manifest.specs.Reader.{read_manifest, refused_reading}
 use Rattle.manifest.specs.Writer.{outcome_of, write_manifest}
-use Rattle.manifest.proofs.read as read
-use Rattle.manifest.proofs.write as write
+use Rattle.manifest.specs.contracts.read as read
+use Rattle.manifest.specs.contracts.write as write
 use Rattle.state.specs.declared.State.{State}
 use Rattle.start.specs.Promise.{Refuses}
-use Rattle.start.proofs.start as start
+use Rattle.start.specs.contracts.start as start
 use Rattle.devicemap.specs.declared.Mapped.TheVariants as map_answer
 use Rattle.devicemap.specs.Map.{mapped, buffer_after}
-use Rattle.devicemap.proofs.device_map as map
+use Rattle.devicemap.specs.contracts.device_map as map
 use Rattle.events.specs.declared.Answer.TheVariants.{Refused}
 use Rattle.events.specs.Answers.{told_by}
 use Rattle.rules.specs.Act.{World, Out, step}
 use Rattle.kept.specs.Refusals.{AsGiven}
 use Rattle.preserved.specs.Preserved.{Ask}
-use Rattle.monitor.proofs.step as code
-use Rattle.promises.specs.Code.{Called, AsksNothing}
+use Rattle.monitor.specs.contracts.step as code
+use borrow.Fn.World.{w₀}
+use borrow.Fn.Read.{r_top}
+use Rattle.promises.specs.Code.{told, Called, AsksNothing}
 
 pub record EveryInputAnswered : Type 0 where
   -- "Every state, event, manifest and memory that can be handed over gets an answer, and the work ends": no entry point asks anything, and a check proves
   -- of each function that it is safe and ends
-  pub start_asks_nothing : AsksNothing start.ended start.Reads.Asked
-  pub step_asks_nothing : AsksNothing code.ended code.Reads.Asked
-  pub read_asks_nothing : AsksNothing read.ended read.Reads.Asked
-  pub write_asks_nothing : AsksNothing write.ended write.Reads.Asked
-  pub map_asks_nothing : AsksNothing map.ended map.Reads.Asked
+  pub start_asks_nothing : AsksNothing start.ended (λ κs a. told ((start.clauses w₀.𝓛 w₀.𝓜.mem w₀.𝓡.run κs a).requires tt) r_top)
+  pub step_asks_nothing : AsksNothing code.ended (λ κs a. told ((code.clauses w₀.𝓛 w₀.𝓜.mem w₀.𝓡.run κs a).requires tt) r_top)
+  pub read_asks_nothing : AsksNothing read.ended (λ κs a. told ((read.clauses w₀.𝓛 w₀.𝓜.mem w₀.𝓡.run κs a).requires tt) r_top)
+  pub write_asks_nothing : AsksNothing write.ended (λ κs a. told ((write.clauses w₀.𝓛 w₀.𝓜.mem w₀.𝓡.run κs a).requires tt) r_top)
+  pub map_asks_nothing : AsksNothing map.ended (λ κs a. told ((map.clauses w₀.𝓛 w₀.𝓜.mem w₀.𝓡.run κs a).requires tt) r_top)
   -- and an answer that the contract allows is always there
   pub answered : (w : World) (x : Ask) → Called w x (step w.state w.memory x.event x.payload x.buffer)
   -- "Bad input is refused by number": an event's, one of 1 to 10

@@ -4,10 +4,9 @@ use lib.Seq.{sets}
 use mathlib.Core.Path.{refl, sym, ap, ◌∙◌}
 use Rattle.lists.specs.Bytes.{part}
 use Rattle.unique.proofs.Same.{both, result}
-use Rattle.unique.proofs.lines_unique.Statement.{statement}
-use Rattle.unique.proofs.lines_unique.Tie as tie
+use Rattle.unique.proofs.lines_unique.Goals as goal
 
-returns : tie.Need-returns
+pub returns : goal.returns
 returns c = record {
   numerals_place_of_one = λ κs a z z' w w'. result;
   numerals_number_one = λ κs a z z' w w'. result;
@@ -23,6 +22,3 @@ returns c = record {
   desk_hear_one = λ κs a z z' w w' p q. both p q;
   desk_serve_one = λ κs a z z' w w' p q. both p.0 q.0;
 }
-
-pub lines_unique_spec : {M : Type 1} → statement M
-lines_unique_spec = tie.close (tie.spec returns)

@@ -1,9 +1,8 @@
 -- `unique::board_unique` keeps its promise: each contract is an equation with a definition, and what is known whole is known part by part.
 use Rattle.unique.proofs.Same.{both, result, digest}
-use Rattle.unique.proofs.board_unique.Statement.{statement}
-use Rattle.unique.proofs.board_unique.Tie as tie
+use Rattle.unique.proofs.board_unique.Goals as goal
 
-returns : tie.Need-returns
+pub returns : goal.returns
 returns c = record {
   twin_mode_of_one = λ κs a z z' w w'. result;
   twin_number_of_one = λ κs a z z' w w'. result;
@@ -20,6 +19,3 @@ returns c = record {
   sha1_c_sha1_hash_one = λ κs a z z' w w'. digest;
   wellformed_c_guddaroox_well_formed_one = λ κs a z z' w w'. result;
 }
-
-pub board_unique_spec : {M : Type 1} → statement M
-board_unique_spec = tie.close (tie.spec returns)

@@ -7,10 +7,9 @@ use Rattle.preserved.proofs.Stays.{stays}
 use Rattle.round.proofs.Trips.{read_then_written, written_then_read}
 use Rattle.start.proofs.Fresh.{accepts}
 use Rattle.promises.proofs.Chain.{chain}
-use Rattle.promises.proofs.as_the_rules_say.Statement.{statement}
-use Rattle.promises.proofs.as_the_rules_say.Tie as tie
+use Rattle.promises.proofs.as_the_rules_say.Goals as goal
 
-returns : tie.Need-returns
+pub returns : goal.returns
 returns c = record {
   started = λ κs a z w p. p;
   fresh = accepts;
@@ -21,6 +20,3 @@ returns c = record {
   read_then_written = read_then_written;
   written_then_read = written_then_read;
 }
-
-pub as_the_rules_say_spec : {M : Type 1} → statement M
-as_the_rules_say_spec = tie.close (tie.spec returns)

@@ -8,10 +8,9 @@ use Rattle.kept.proofs.Refused.{refusals_keep, refusals_named}
 use Rattle.start.proofs.Fresh.{refuses}
 use Rattle.promises.proofs.Chain.{chain, called}
 use Rattle.promises.proofs.Refuse.{read_refuses, write_refuses, map_refuses}
-use Rattle.promises.proofs.every_input_answered.Statement.{statement}
-use Rattle.promises.proofs.every_input_answered.Tie as tie
+use Rattle.promises.proofs.every_input_answered.Goals as goal
 
-returns : tie.Need-returns
+pub returns : goal.returns
 returns c = record {
   start_asks_nothing = λ κs a. tt;
   step_asks_nothing = λ κs a. tt;
@@ -26,6 +25,3 @@ returns c = record {
   write_refuses = write_refuses;
   map_refuses = map_refuses;
 }
-
-pub every_input_answered_spec : {M : Type 1} → statement M
-every_input_answered_spec = tie.close (tie.spec returns)

@@ -2,10 +2,9 @@
 use mathlib.Core.Path.{refl}
 use mathlib.Core.List.{[]}
 use Rattle.unique.proofs.Same.{both, result, digest, stepped, settled_both}
-use Rattle.unique.proofs.events_unique.Statement.{statement}
-use Rattle.unique.proofs.events_unique.Tie as tie
+use Rattle.unique.proofs.events_unique.Goals as goal
 
-returns : tie.Need-returns
+pub returns : goal.returns
 returns c = record {
   switch_monitor_enter_one = λ κs a z z' w w' p q. (refl, λ i. (both p q i, (tt, (tt, (tt, tt)))));
   switch_monitor_leave_one = λ κs a z z' w w' p q. (both p.0 q.0, λ i. (both p.1 q.1 i, tt));
@@ -49,6 +48,3 @@ returns c = record {
   decide_decided_one = λ κs a z z' w w' p q. both p.out q.out;
   monitor_step_one = λ κs a z z' w w' p q. let o = both p q in ((λ i. record { answer = (o i).answer; state = (o i).state }), λ i. (tt, (tt, (tt, ((o i).memory, ((o i).buffer, tt))))));
 }
-
-pub events_unique_spec : {M : Type 1} → statement M
-events_unique_spec = tie.close (tie.spec returns)

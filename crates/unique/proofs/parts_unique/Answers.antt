@@ -1,10 +1,9 @@
 -- `unique::parts_unique` keeps its promise: each contract is an equation with a definition, and what is known whole is known part by part.
 use mathlib.Core.Path.{refl}
 use Rattle.unique.proofs.Same.{both, result, digest}
-use Rattle.unique.proofs.parts_unique.Statement.{statement}
-use Rattle.unique.proofs.parts_unique.Tie as tie
+use Rattle.unique.proofs.parts_unique.Goals as goal
 
-returns : tie.Need-returns
+pub returns : goal.returns
 returns c = record {
   geometry_numbers_one = λ κs a z z' w w'. result;
   geometry_page_of_one = λ κs a z z' w w'. result;
@@ -56,6 +55,3 @@ returns c = record {
   start_start_one = λ κs a z z' w w'. result;
   devicemap_device_map_one = λ κs a z z' w w' p q. (both p.0 q.0, λ i. (tt, (both p.1 q.1 i, tt)));
 }
-
-pub parts_unique_spec : {M : Type 1} → statement M
-parts_unique_spec = tie.close (tie.spec returns)
