@@ -1,17 +1,12 @@
-use Prim.Native.Nat.{ℕ, ◌≤◌, ◌<◌, ◌-◌}
-use mathlib.Core.Path.{◌≡◌, sym, ◌∙◌, ap, subst}
+use Prim.Native.Nat.{ℕ, ◌≤◌, ◌-◌}
+use mathlib.Core.Path.{◌≡◌}
 use mathlib.Core.Bool.{Bool, true, false, ◌&&◌}
 use mathlib.Core.List.{List, []}
 use lib.Dec.{ltb}
-use borrow.Author.Tests.{not-true, not-false, ltb-true, lt-ltb}
 use Rattle.lists.specs.Below.{any_below}
-use Rattle.lists.proofs.Logic.{and_l, and_r}
-use Rattle.lists.proofs.Any.{any_none, any_more, any_hit, any_not, any_no}
 use Rattle.fields.specs.declared.Run.{Run}
 use Rattle.fields.specs.Fields.{fields_of}
-use Rattle.fields.specs.Rules.{code_holds_at, in_code}
-use borrow.Author.Rules.{rules}
-use native.Mathlib.Omega.{arith}
+use Rattle.fields.specs.Rules.{code_holds_at}
 use Rattle.keeps.proofs.code_if.Given as goal
 
 -- the run stands in a used place, is code and has the page

@@ -1,4 +1,4 @@
-use Prim.Native.Nat.{ℕ, ◌≤◌}
+use Prim.Native.Nat.{ℕ}
 use mathlib.Core.Path.{◌≡◌, sym, ◌∙◌}
 use mathlib.Core.Bool.{Bool, ◌&&◌}
 use lib.Dec.{leb}
@@ -6,7 +6,7 @@ use Rattle.geometry.specs.Geometry.{page_of}
 use Rattle.fields.specs.declared.Fields.{Fields}
 use Rattle.fields.specs.Fields.{fields_of, entry_at}
 use Rattle.fields.specs.Rules.{in_code, lengths_right}
-use Rattle.keeps.proofs.Passes.{entry_test, Entries, entries_none, entries_step, entries_wrong, entries_end}
+use Rattle.keeps.proofs.Passes.{entry_test, entries_none, entries_step, entries_wrong, entries_end}
 use native.Mathlib.Omega.{arith}
 use Rattle.keeps.proofs.entries_right.Goals as goal
 

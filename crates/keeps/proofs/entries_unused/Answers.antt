@@ -3,10 +3,8 @@ use lib.Dec.{eqb}
 use mathlib.Core.Bool.{◌&&◌}
 use mathlib.Core.List.{[]}
 use mathlib.Core.Path.{◌≡◌, sym}
-use Prim.Native.Nat.{◌≤◌, ◌-◌}
 use native.Mathlib.Omega.{arith}
-use Rattle.lists.specs.Below.{all_below}
-use Rattle.lists.proofs.All.{all_end, all_of}
+use Rattle.lists.proofs.All.{all_of}
 use Rattle.fields.specs.Fields.{fields_of, entry_at}
 use Rattle.fields.specs.Rules.{entry_free_at}
 use Rattle.keeps.proofs.Passes.{zeros_step}

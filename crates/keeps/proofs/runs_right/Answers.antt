@@ -1,8 +1,4 @@
-use Prim.Native.Nat.{◌≤◌, ◌-◌, ◌*◌}
-use mathlib.Core.List.{[]}
-use Rattle.fields.specs.Fields.{fields_of}
-use Rattle.keeps.proofs.Passes.{Runs, runs_none, runs_step, runs_end}
-use borrow.Author.Rules.{rules}
+use Rattle.keeps.proofs.Passes.{runs_none, runs_step, runs_end}
 use native.Mathlib.Omega.{arith}
 use Rattle.keeps.proofs.runs_right.Goals as goal
 
