@@ -2,10 +2,11 @@
 // zeroed buffer to which the fields were written again. tests/manifests.sh compares both with a second reader.
 #![tactic(auto)]
 
-ghost use Rattle.std.specs.Prelude.{◌<◌};
+ghost use Rattle.std.specs.Prelude.{◌<◌, ◌≤◌, length, IfOk};
 
 use fields::Fields;
-use libc::{STDIN_FILENO, STDOUT_FILENO};
+use std::io;
+use std::io::{Read, Write};
 
 const LONGEST: usize = manifest::ITEM * (Fields::RUNS + Fields::ENTRIES) + manifest::TRAILER;
 
@@ -18,32 +19,51 @@ fn length(x: u8) -> usize
     x as usize
 }
 
-fn again(reading: manifest::Reading) {
+// Reads until the buffer is full or the input ends, and counts the bytes.
+fn read_full<R: Read>(input: &mut R, buf: &mut [u8]) -> io::Result<usize>
+    ensures { IfOk result (λ n. n ≤ length buf.new) }
+{
+    let mut done = 0;
+    while done < buf.len() {
+        let n = input.read(&mut buf[done..])?;
+        if n == 0 {
+            break;
+        }
+        done += n;
+    }
+    Ok(done)
+}
+
+fn again<W: Write>(output: &mut W, reading: manifest::Reading) -> io::Result<()> {
     let fields = reading.fields;
     let mut buffer = [0u8; LONGEST];
     manifest::write(fields, &mut buffer);
-    io::write_all(STDOUT_FILENO, &buffer);
+    output.write_all(&buffer)
 }
 
 // Reads one manifest and answers it; false where the input has ended.
-fn one() -> bool {
+fn one<R: Read, W: Write>(input: &mut R, output: &mut W) -> io::Result<bool> {
     let mut given = [0u8; GIVEN];
-    if io::read_full(STDIN_FILENO, &mut given) < GIVEN {
-        return false;
+    if read_full(input, &mut given)? < GIVEN {
+        return Ok(false);
     }
     let n = length(given[0]);
     let reading = manifest::read(&given[1..1 + n]);
-    io::write_all(STDOUT_FILENO, &[reading.refusal]);
+    output.write_all(&[reading.refusal])?;
     if reading.refusal == 0 {
-        again(reading);
+        again(output, reading)?;
     }
-    true
+    Ok(true)
 }
 
-// A proved loop has to end: it counts its turns down from a number that no run uses up.
-fn main() {
-    let mut turns = u64::MAX;
-    while turns > 0 && one() {
-        turns -= 1;
+// A proved loop has to end, and nothing says that the input does: no run uses up so many turns.
+fn main(rt: HostRuntime) -> io::Result<()> {
+    let mut input = rt.stdin();
+    let mut output = rt.stdout();
+    for _ in 0..u64::MAX {
+        if !one(&mut input, &mut output)? {
+            break;
+        }
     }
+    Ok(())
 }

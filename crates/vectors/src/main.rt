@@ -6,10 +6,11 @@
 //   bytes 12 on  a digest, or the name of a line, with spaces
 #![tactic(auto)]
 
-ghost use Rattle.std.specs.Prelude.{◌<◌, ◌≤◌, length};
+ghost use Rattle.std.specs.Prelude.{◌<◌, ◌≤◌, length, IfOk};
 
 use geometry::Geometry;
-use libc::{STDIN_FILENO, STDOUT_FILENO};
+use std::io;
+use std::io::{Read, Write};
 
 const HEADER: usize = 32;
 
@@ -30,13 +31,28 @@ struct Header {
     whole: bool,
 }
 
-fn next_header() -> Header {
+// Reads until the buffer is full or the input ends, and counts the bytes.
+fn read_full<R: Read>(input: &mut R, buf: &mut [u8]) -> io::Result<usize>
+    ensures { IfOk result (λ n. n ≤ length buf.new) }
+{
+    let mut done = 0;
+    while done < buf.len() {
+        let n = input.read(&mut buf[done..])?;
+        if n == 0 {
+            break;
+        }
+        done += n;
+    }
+    Ok(done)
+}
+
+fn next_header<R: Read>(input: &mut R) -> io::Result<Header> {
     let mut b = [0u8; HEADER];
-    let n = io::read_full(STDIN_FILENO, &mut b);
-    Header {
+    let n = read_full(input, &mut b)?;
+    Ok(Header {
         bytes: b,
         whole: n == HEADER,
-    }
+    })
 }
 
 fn wide(x: u8) -> usize
@@ -141,56 +157,61 @@ fn compared(r: Run, d: sha_1::Digest) -> Run {
     with_counts(r, count, all)
 }
 
-fn line(r: Run, d: sha_1::Digest) -> Run {
+fn line<W: Write>(output: &mut W, r: Run, d: sha_1::Digest) -> io::Result<Run> {
     let name = d.bytes;
-    io::write_all(STDOUT_FILENO, &name);
-    io::print_decimal(STDOUT_FILENO, r.count);
-    io::write_all(STDOUT_FILENO, b" digests, ");
-    io::print_decimal(STDOUT_FILENO, r.wrong);
-    io::write_all(STDOUT_FILENO, b" differ\n");
-    with_counts(r, 0, 0)
+    let count = r.count;
+    let wrong = r.wrong;
+    output.write_all(&name)?;
+    writeln!(output, "{count} digests, {wrong} differ")?;
+    Ok(with_counts(r, 0, 0))
 }
 
-fn fill(buf: &mut [u8], n: usize)
+fn fill<R: Read>(input: &mut R, buf: &mut [u8], n: usize) -> io::Result<()>
     requires { n ≤ length buf.old }
 {
-    io::read_full(STDIN_FILENO, &mut buf[..n]);
+    read_full(input, &mut buf[..n])?;
+    Ok(())
 }
 
-fn with_part(r: Run, kind: u8, n: usize) -> Run
+fn with_part<R: Read>(input: &mut R, r: Run, kind: u8, n: usize) -> io::Result<Run>
     requires { n < 65536 }
 {
-    let mut space = io::large_buffer();
-    fill(&mut space, n);
+    let mut space = [0u8; 65536];
+    fill(input, &mut space, n)?;
     if kind == b't' {
-        return with_hashing(r, sha_1::taken(r.hashing, &space[..n]));
+        return Ok(with_hashing(r, sha_1::taken(r.hashing, &space[..n])));
     }
     if kind == b'f' {
         let d = sha_1::finished(r.hashing, &space[..n]);
-        return with_hashing(with_digest(r, d), sha_1::start());
+        return Ok(with_hashing(with_digest(r, d), sha_1::start()));
     }
-    with_digest(r, sha_1::hash(&space[..n]))
+    Ok(with_digest(r, sha_1::hash(&space[..n])))
 }
 
-fn stepped(r: Run, h: [u8; HEADER]) -> Run {
+fn stepped<R: Read, W: Write>(
+    input: &mut R,
+    output: &mut W,
+    r: Run,
+    h: [u8; HEADER],
+) -> io::Result<Run> {
     let kind = h[0];
     let d = digest_in(h);
     if kind == b's' {
-        return with_digest(r, d);
+        return Ok(with_digest(r, d));
     }
     if kind == b'p' {
-        return with_digest(r, sha_1::hash_pair(r.digest, d));
+        return Ok(with_digest(r, sha_1::hash_pair(r.digest, d)));
     }
     if kind == b'm' {
-        return with_digest(r, thousand(r.digest));
+        return Ok(with_digest(r, thousand(r.digest)));
     }
     if kind == b'c' {
-        return compared(r, d);
+        return Ok(compared(r, d));
     }
     if kind == b'l' {
-        return line(r, d);
+        return line(output, r, d);
     }
-    with_part(r, kind, wide(h[2]) * 256 + wide(h[3]))
+    with_part(input, r, kind, wide(h[2]) * 256 + wide(h[3]))
 }
 
 fn begun() -> Run {
@@ -205,15 +226,17 @@ fn begun() -> Run {
     }
 }
 
-// A proved loop has to end, and nothing says that the input does: the turns are counted down from a number that no run uses up.
-fn main() {
+// A proved loop has to end, and nothing says that the input does: no run uses up so many turns.
+fn main(rt: HostRuntime) -> io::Result<()> {
+    let mut input = rt.stdin();
+    let mut output = rt.stdout();
     let mut r = begun();
-    let mut turns = u64::MAX;
-    let mut h = next_header();
-    while turns > 0 && h.whole {
-        let b = h.bytes;
-        r = stepped(r, b);
-        h = next_header();
-        turns -= 1;
+    for _ in 0..u64::MAX {
+        let h = next_header(&mut input)?;
+        if !h.whole {
+            break;
+        }
+        r = stepped(&mut input, &mut output, r, h.bytes)?;
     }
+    Ok(())
 }
