@@ -1,10 +1,7 @@
-use mathlib.Core.Path.{◌≡◌, refl, ap, ◌∙◌}
+use mathlib.Core.Path.{◌≡◌}
 use Prim.Native.Nat.{◌≤◌, ◌-◌}
 use lib.Seq.{sets}
-use lib.ListN.{length, take, length-set}
-use lib.Seq.{take_all}
-use Rattle.lists.proofs.Parts.{put_turn}
-use native.Mathlib.Omega.{arith}
+use lib.ListN.{length, take}
 use Rattle.memory.proofs.copy_in.Given as goal
 
 abbrev pub invariant-loop-i : goal.invariant-loop-i

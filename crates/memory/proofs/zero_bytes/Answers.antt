@@ -1,7 +1,5 @@
-use mathlib.Core.Path.{◌≡◌, refl}
-use Prim.Native.Nat.{◌≤◌, ◌-◌}
-use lib.Seq.{sets}
-use lib.ListN.{length, length-set}
+use mathlib.Core.Path.{refl}
+use lib.ListN.{length-set}
 use Rattle.lists.specs.Bytes.{zeros}
 use Rattle.lists.proofs.Parts.{zero_turn}
 use native.Mathlib.Omega.{arith}

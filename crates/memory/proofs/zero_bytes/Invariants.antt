@@ -1,10 +1,8 @@
-use mathlib.Core.Path.{◌≡◌, refl}
+use mathlib.Core.Path.{◌≡◌}
 use Prim.Native.Nat.{◌≤◌, ◌-◌}
 use lib.Seq.{sets}
-use lib.ListN.{length, length-set}
+use lib.ListN.{length}
 use Rattle.lists.specs.Bytes.{zeros}
-use Rattle.lists.proofs.Parts.{zero_turn}
-use native.Mathlib.Omega.{arith}
 use Rattle.memory.proofs.zero_bytes.Given as goal
 
 abbrev pub invariant-loop-i : goal.invariant-loop-i

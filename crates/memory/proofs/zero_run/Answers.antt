@@ -1,7 +1,6 @@
 use mathlib.Core.Path.{sym, ◌∙◌}
 use Rattle.lists.proofs.Pages.{wipe_run}
-use borrow.Author.Rules.{rules}
 use Rattle.memory.proofs.zero_run.Goals as goal
 
 pub returns : goal.returns
-returns c = c.zero-bytes.ensures ∙ sym (wipe_run _ _ _ _)
+returns c = c.zero_bytes.ensures ∙ sym (wipe_run _ _ _ _)
