@@ -37,16 +37,14 @@ fn entered(slot: usize, out: usize, length: usize) -> Running
 }
 
 // Entering: the lent record becomes that of the call that begins. Firmware in C calls it too, and `monitor_leave`.
-#[unsafe(no_mangle)]
-pub extern "C" fn monitor_enter(running: &mut Running, slot: usize, out: usize, length: usize)
+pub fn monitor_enter(running: &mut Running, slot: usize, out: usize, length: usize)
     ensures { running.new ≡ entered_record slot out length }
 {
     *running = entered(slot, out, length);
 }
 
 // Leaving: the caller has the record as it was, and the lent one is zero.
-#[unsafe(no_mangle)]
-pub extern "C" fn monitor_leave(running: &mut Running) -> Running
+pub fn monitor_leave(running: &mut Running) -> Running
     ensures { (result ≡ running.old) × (running.new ≡ zero_running) }
 {
     let was = *running;
@@ -80,11 +78,13 @@ pub fn leaving(r: Running) -> Left
 }
 
 // What Call's rule puts into the state's record is what `monitor_enter` leaves in the lent one.
+#[tactic(auto, unfolding(rules::specs::Decide::entered))]
 pub fn call_enters()
     ensures { CallEnters }
 {}
 
 // What Return's rule reads of the state's record and leaves in it is what `monitor_leave` hands out and leaves in the lent one.
+#[tactic(auto, unfolding(rules::specs::Decide::return_rule))]
 pub fn return_leaves()
     ensures { ReturnLeaves }
 {}
