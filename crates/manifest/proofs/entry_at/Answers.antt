@@ -1,6 +1,5 @@
 use Rattle.manifest.proofs.Steps.{entry_is, entry_bad}
 use mathlib.Core.Path.{sym, ◌∙◌}
-use borrow.Author.Rules.{rules}
 use Rattle.manifest.proofs.entry_at.Goals as goal
 
 pub returns-then-lengths_right : goal.returns-then-lengths_right

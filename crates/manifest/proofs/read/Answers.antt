@@ -1,14 +1,12 @@
-use borrow.Author.Tests.{not-true, not-false}
 use Rattle.lists.specs.Below.{table}
 use Rattle.manifest.proofs.Places.{placed_none, placed_back, placed_end, down_more}
 use Rattle.fields.specs.Fields.{no_run, no_entry}
 use mathlib.Core.Bool.{true}
 use mathlib.Core.Path.{◌≡◌, sym, ◌∙◌}
-use Prim.Native.Nat.{ℕ, ◌≤◌, ◌<◌, ◌-◌, ◌+◌, ◌*◌}
+use Prim.Native.Nat.{◌-◌, ◌+◌, ◌*◌}
 use Rattle.manifest.specs.Reader.{blank_at}
-use Rattle.manifest.specs.Layout.{placed, entry_in_at, run_in_at}
-use Rattle.manifest.proofs.Steps.{Got, trailer_got, entry_got, run_got, out_trailer, out_entry, out_run, out_broken, out_yes}
-use borrow.Author.Rules.{rules}
+use Rattle.manifest.specs.Layout.{entry_in_at, run_in_at}
+use Rattle.manifest.proofs.Steps.{trailer_got, entry_got, run_got, out_trailer, out_entry, out_run, out_broken, out_yes}
 use native.Mathlib.Omega.{arith}
 use Rattle.manifest.proofs.read.Goals as goal
 

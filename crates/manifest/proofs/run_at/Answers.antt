@@ -1,6 +1,5 @@
 use lib.ListN.{get_or}
 use Rattle.manifest.proofs.Steps.{run_is, run_bad}
-use borrow.Author.Rules.{rules}
 use Rattle.manifest.proofs.run_at.Goals as goal
 
 pub returns-then-zero-right : goal.returns-then-zero-right

@@ -1,6 +1,5 @@
 use mathlib.Core.Path.{refl}
 use Rattle.manifest.proofs.Equal.{equal_is}
-use borrow.Author.Rules.{rules}
 use Rattle.manifest.proofs.same.Goals as goal
 
 pub returns : goal.returns

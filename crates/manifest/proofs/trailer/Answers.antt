@@ -6,7 +6,6 @@ use Rattle.lists.proofs.Parts.{part_lent}
 use Rattle.manifest.proofs.Steps.{trailer_test, trailer_is, trailer_bad, trailer_short}
 use native.Mathlib.Omega.{arith}
 use mathlib.Core.Path.{refl, ◌∙◌, ap}
-use borrow.Author.Rules.{rules}
 use Rattle.manifest.proofs.trailer.Goals as goal
 
 pub returns-then-n-lt-TRAILER : goal.returns-then-n-lt-TRAILER

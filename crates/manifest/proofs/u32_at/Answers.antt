@@ -1,6 +1,5 @@
 use native.Mathlib.Omega.{arith}
 use Rattle.manifest.proofs.Widths.{little_at_4}
-use borrow.Author.Rules.{rules}
 use Rattle.manifest.proofs.u32_at.Goals as goal
 
 pub returns : goal.returns

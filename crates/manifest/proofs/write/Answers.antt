@@ -1,0 +1,53 @@
+use Rattle.manifest.proofs.Puts.{encode_put}
+use Rattle.manifest.specs.Layout.{size_of}
+use Rattle.manifest.specs.Writer.{write_manifest, wrote}
+use borrow.Author.Tests.{lt-leb, le-leb}
+use Rattle.fields.specs.declared.Fields.{Fields}
+use Rattle.fields.proofs.Facts.{Counts, kept}
+use Rattle.fields.specs.Rules.{keeps_rules}
+use mathlib.Core.Bool.{Bool, true}
+use lib.ListN.{length}
+use native.Mathlib.Omega.{arith}
+use mathlib.Core.Path.{◌≡◌, sym, ◌∙◌, ap}
+use Rattle.manifest.proofs.write.Goals as goal
+
+-- past the first test the fields keep the rules, so their counts are small
+ok : (f : Fields) (t : Bool) → t ≡ keeps_rules f → t ≡ true → Counts f
+ok f t h y = (kept f (sym h ∙ y)).bounds
+
+pub returns-then-not-keeps_rules : goal.returns-then-not-keeps_rules
+unfolding write_manifest
+returns-then-not-keeps_rules c = simp (sym c.keeps_rules.ensures ∙ c.if-not-keeps_rules.true)
+
+pub overflow_add-n : goal.overflow_add-n
+overflow_add-n c = omega (arith, ok c.args.f _ c.keeps_rules.ensures c.if-not-keeps_rules.false)
+
+pub overflow_mul-n : goal.overflow_mul-n
+overflow_mul-n c = omega (arith, ok c.args.f _ c.keeps_rules.ensures c.if-not-keeps_rules.false)
+
+pub overflow_add-n-2 : goal.overflow_add-n-2
+overflow_add-n-2 c = omega (arith, ok c.args.f _ c.keeps_rules.ensures c.if-not-keeps_rules.false)
+
+pub returns-then-buffer-n : goal.returns-then-buffer-n
+unfolding write_manifest
+returns-then-buffer-n c =
+    let f = c.args.f in
+    simp (sym c.keeps_rules.ensures ∙ c.if-not-keeps_rules.false, lt-leb (size_of f.r f.e) (length c.args.buffer.now) c.if-buffer-n.true)
+
+pub put_runs-requires : goal.put_runs-requires
+put_runs-requires c = omega (arith, ok c.args.f _ c.keeps_rules.ensures c.if-not-keeps_rules.false)
+
+pub put_entries-requires : goal.put_entries-requires
+put_entries-requires c = omega (arith, ok c.args.f _ c.keeps_rules.ensures c.if-not-keeps_rules.false)
+
+pub put_trailer-requires-clause-r_le_run_places : goal.put_trailer-requires-clause-r_le_run_places
+put_trailer-requires-clause-r_le_run_places c =
+    let n = ok c.args.f _ c.keeps_rules.ensures c.if-not-keeps_rules.false in
+    (omega (arith, n), omega (arith, n))
+
+pub returns : goal.returns
+unfolding write_manifest
+returns c =
+    let f = c.args.f in
+    let e = encode_put f c.args.buffer.now c.put_runs.ensures c.put_entries.ensures c.put_trailer.ensures in
+    simp (sym c.keeps_rules.ensures ∙ c.if-not-keeps_rules.false, le-leb (size_of f.r f.e) (length c.args.buffer.now) c.if-buffer-n.false) (ap (wrote _) e)
