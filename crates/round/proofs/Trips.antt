@@ -19,7 +19,7 @@ use Rattle.manifest.specs.Reader.{runs_in, entries_in, fields_in, accepts, refus
 use Rattle.manifest.specs.Writer.{outcome_of, Wrote, wrote, write_manifest}
 use Rattle.manifest.proofs.Places.{placed_long}
 use Rattle.manifest.proofs.Puts.{encode_long}
-use Rattle.round.specs.Round.{Bytes, Shaped, ReadThenWritten, WrittenThenRead, AcceptsExactly, OneSpelling, Lengths}
+use Rattle.round.specs.Round.{Shaped, ReadThenWritten, WrittenThenRead, AcceptsExactly, OneSpelling, Lengths}
 use Rattle.round.proofs.Rewritten.{accepted, written_again}
 use Rattle.round.proofs.Reread.{accepted_again, read_again}
 
