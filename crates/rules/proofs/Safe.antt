@@ -14,7 +14,7 @@ use Rattle.events.specs.declared.Answer.{Answer}
 use Rattle.events.specs.declared.Answer.TheVariants as answer
 use Rattle.events.specs.Answers.{fills}
 use Rattle.rules.specs.Plan.{Fetch, nothing, bytes, pcr, Store, keep, put, move, clean, Seal, same, clear, extend, measure, Plan}
-use Rattle.rules.specs.Decide.{registered, out_from}
+use Rattle.rules.specs.Decide.{out_from}
 use Rattle.rules.specs.Isolation.{Keeps}
 use Rattle.rules.proofs.Ranges.{Apart}
 
