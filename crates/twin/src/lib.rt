@@ -121,6 +121,7 @@ fn extend_of(q: Request, source: Source) -> Asked
 }
 
 // An extend, by its source.
+#[tactic(auto, unfolding(crate::specs::Asked::extend_as))]
 fn extend_asked(q: Request) -> Asked
     ensures { result ≡ extend_as q.source q }
 {
@@ -133,6 +134,7 @@ fn extend_asked(q: Request) -> Asked
 }
 
 // The event that a request names.
+#[tactic(auto, unfolding(crate::specs::Asked::asked_as))]
 pub fn event_asked(q: Request) -> Asked
     ensures { result ≡ asked_of q }
 {
