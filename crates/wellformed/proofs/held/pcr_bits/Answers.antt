@@ -1,0 +1,16 @@
+use borrow.Author.Rules.{rules}
+use Prim.Native.Nat.{◌≤◌, ◌-◌}
+use mathlib.Core.Path.{◌≡◌, refl}
+use lib.Dec.{eqb}
+use lib.ListN.{get_or}
+use Rattle.lists.specs.Below.{all_below}
+use Rattle.lists.proofs.All.{all_end, bits_none, bits_step}
+use Rattle.wellformed.specs.WellFormed.{byte_zero_at}
+use native.Mathlib.Omega.{arith}
+use Rattle.wellformed.proofs.held.pcr_bits.Goals as goal
+
+pub loop-i-init : goal.loop-i-init
+loop-i-init c = (search rules, bits_none _)
+
+pub loop-i-preserved : goal.loop-i-preserved
+loop-i-preserved c = let l = c in (omega arith, bits_step _ l.loop-i.i l.loop-i.bits (get_or l.args.x.bytes l.loop-i.i 0) l.loop-i.invariant.1 refl)

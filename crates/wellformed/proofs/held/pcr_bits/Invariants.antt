@@ -1,0 +1,16 @@
+use borrow.Author.Rules.{rules}
+use Prim.Native.Nat.{◌≤◌, ◌-◌}
+use mathlib.Core.Path.{◌≡◌, refl}
+use lib.Dec.{eqb}
+use lib.ListN.{get_or}
+use Rattle.lists.specs.Below.{all_below}
+use Rattle.lists.proofs.All.{all_end, bits_none, bits_step}
+use Rattle.wellformed.specs.WellFormed.{byte_zero_at}
+use native.Mathlib.Omega.{arith}
+use Rattle.wellformed.proofs.held.pcr_bits.Given as goal
+
+abbrev pub invariant-loop-i : goal.invariant-loop-i
+invariant-loop-i l = (l.i ≤ 20) × (eqb l.bits 0 ≡ all_below l.i (byte_zero_at l.x))
+
+abbrev pub decreases-loop-i : goal.decreases-loop-i
+decreases-loop-i l = 20 - l.i

@@ -1,0 +1,16 @@
+use borrow.Author.Rules.{rules}
+use Prim.Native.Nat.{◌≤◌, ◌-◌}
+use mathlib.Core.Path.{◌≡◌, refl}
+use Rattle.lists.specs.Below.{any_below}
+use mathlib.Core.List.{[]}
+use Rattle.fields.specs.Fields.{fields_of}
+use Rattle.lists.proofs.Any.{any_none, any_step, any_end}
+use Rattle.wellformed.specs.WellFormed.{output_at}
+use native.Mathlib.Omega.{arith}
+use Rattle.wellformed.proofs.running.any_output.Goals as goal
+
+pub loop-i-init : goal.loop-i-init
+loop-i-init c = (search rules, any_none _)
+
+pub loop-i-preserved : goal.loop-i-preserved
+loop-i-preserved c = (omega arith, any_step _ _ _ _ c.loop-i.invariant.1 refl)
