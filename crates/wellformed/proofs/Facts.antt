@@ -14,7 +14,6 @@ use Rattle.lists.proofs.First.{first_at, first_before}
 use Rattle.geometry.specs.Geometry.{least_pages, most_pages, slot_count}
 use Rattle.fields.specs.Rules.{keeps_rules}
 use Rattle.fields.specs.Pages.{has_page, pages_under}
-use Rattle.fields.specs.Pages as pages
 use Rattle.fields.proofs.PageLaws.{page_under}
 use Rattle.state.specs.declared.Card.{Card}
 use Rattle.state.specs.Face.{Face, card_at, owner_at, top_of, is_open}

@@ -1,8 +1,5 @@
-use Prim.Native.Nat.{◌≤◌, ◌-◌}
 use mathlib.Core.Path.{◌∙◌}
-use Rattle.geometry.specs.Geometry.{slot_count}
-use Rattle.wellformed.proofs.Going.{Going, going_begun, going_on, going_seen}
-use borrow.Author.Rules.{rules}
+use Rattle.wellformed.proofs.Going.{going_begun, going_on, going_seen}
 use native.Mathlib.Omega.{arith}
 use Rattle.wellformed.proofs.seen.Goals as goal
 

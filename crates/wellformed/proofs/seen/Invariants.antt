@@ -1,9 +1,6 @@
 use Prim.Native.Nat.{◌≤◌, ◌-◌}
-use mathlib.Core.Path.{◌∙◌}
 use Rattle.geometry.specs.Geometry.{slot_count}
-use Rattle.wellformed.proofs.Going.{Going, going_begun, going_on, going_seen}
-use borrow.Author.Rules.{rules}
-use native.Mathlib.Omega.{arith}
+use Rattle.wellformed.proofs.Going.{Going}
 use Rattle.wellformed.proofs.seen.Given as goal
 
 abbrev pub invariant-loop-k : goal.invariant-loop-k

@@ -1,7 +1,6 @@
 use mathlib.Core.Path.{ap, ◌∙◌}
 use Rattle.wellformed.specs.declared.Sight.{Sight}
 use Rattle.wellformed.proofs.Sights.{seen_right}
-use borrow.Author.Rules.{rules}
 use Rattle.wellformed.proofs.state_right.Goals as goal
 
 pub returns : goal.returns

@@ -1,9 +1,8 @@
-use Prim.Native.Nat.{ℕ, ◌≤◌, ◌<◌}
-use native.Mathlib.Omega.{arith}
+use Prim.Native.Nat.{ℕ, ◌≤◌}
 use mathlib.Core.Path.{◌≡◌, sym, ◌∙◌}
-use mathlib.Core.Bool.{true, false}
+use mathlib.Core.Bool.{true}
 use lib.Dec.{ltb}
-use borrow.Author.Tests.{not-true, ltb-true, leb-true}
+use borrow.Author.Tests.{not-true, leb-true}
 use Rattle.lists.specs.Below.{all_below}
 use Rattle.lists.proofs.Logic.{and_l, and_r}
 use Rattle.geometry.specs.Geometry.{most_pages, slot_count}

@@ -1,11 +1,7 @@
 use borrow.Author.Rules.{rules}
-use Prim.Native.Nat.{◌≤◌, ◌-◌}
-use mathlib.Core.Path.{◌≡◌, refl}
-use lib.Dec.{eqb}
+use mathlib.Core.Path.{refl}
 use lib.ListN.{get_or}
-use Rattle.lists.specs.Below.{all_below}
-use Rattle.lists.proofs.All.{all_end, bits_none, bits_step}
-use Rattle.wellformed.specs.WellFormed.{byte_zero_at}
+use Rattle.lists.proofs.All.{bits_none, bits_step}
 use native.Mathlib.Omega.{arith}
 use Rattle.wellformed.proofs.held.pcr_bits.Goals as goal
 

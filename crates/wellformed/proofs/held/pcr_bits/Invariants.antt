@@ -1,12 +1,8 @@
-use borrow.Author.Rules.{rules}
 use Prim.Native.Nat.{◌≤◌, ◌-◌}
-use mathlib.Core.Path.{◌≡◌, refl}
+use mathlib.Core.Path.{◌≡◌}
 use lib.Dec.{eqb}
-use lib.ListN.{get_or}
 use Rattle.lists.specs.Below.{all_below}
-use Rattle.lists.proofs.All.{all_end, bits_none, bits_step}
 use Rattle.wellformed.specs.WellFormed.{byte_zero_at}
-use native.Mathlib.Omega.{arith}
 use Rattle.wellformed.proofs.held.pcr_bits.Given as goal
 
 abbrev pub invariant-loop-i : goal.invariant-loop-i

@@ -1,9 +1,5 @@
-use Prim.Native.Nat.{◌≤◌, ◌-◌}
-use mathlib.Core.Path.{◌≡◌}
-use lib.Dec.{eqb}
-use Rattle.lists.specs.Below.{all_below}
 use Rattle.lists.proofs.All.{all_end, bits_none, bits_step}
-use Rattle.wellformed.specs.WellFormed.{pcr_zero_at, pcrs_zero}
+use Rattle.wellformed.specs.WellFormed.{pcrs_zero}
 use borrow.Author.Rules.{rules}
 use native.Mathlib.Omega.{arith}
 use Rattle.wellformed.proofs.held.pcrs_bits.Goals as goal

@@ -1,4 +1,3 @@
-use borrow.Author.Rules.{rules}
 use Rattle.wellformed.proofs.Slots.{slot_used, slot_free}
 use Rattle.wellformed.proofs.held.slot_right.Goals as goal
 

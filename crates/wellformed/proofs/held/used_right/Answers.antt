@@ -1,12 +1,10 @@
 use mathlib.Core.Path.{◌≡◌, sym, ◌∙◌}
-use mathlib.Core.Bool.{true, false}
-use borrow.Author.Tests.{not-true}
+use mathlib.Core.Bool.{true}
 use Rattle.fields.specs.Fields.{fields_of}
 use Rattle.fields.specs.Rules.{keeps_rules}
 use Rattle.fields.proofs.Facts.{Counts, kept}
 use Rattle.wellformed.proofs.Slots.{under_last}
 use native.Mathlib.Omega.{arith}
-use borrow.Author.Rules.{rules}
 use Rattle.wellformed.proofs.held.used_right.Goals as goal
 
 right : (c : goal.Else-not-keeps) → keeps_rules (fields_of c.args.r c.args.e c.args.runs c.args.entries) ≡ true

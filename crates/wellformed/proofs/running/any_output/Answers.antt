@@ -1,11 +1,6 @@
 use borrow.Author.Rules.{rules}
-use Prim.Native.Nat.{◌≤◌, ◌-◌}
-use mathlib.Core.Path.{◌≡◌, refl}
-use Rattle.lists.specs.Below.{any_below}
-use mathlib.Core.List.{[]}
-use Rattle.fields.specs.Fields.{fields_of}
-use Rattle.lists.proofs.Any.{any_none, any_step, any_end}
-use Rattle.wellformed.specs.WellFormed.{output_at}
+use mathlib.Core.Path.{refl}
+use Rattle.lists.proofs.Any.{any_none, any_step}
 use native.Mathlib.Omega.{arith}
 use Rattle.wellformed.proofs.running.any_output.Goals as goal
 

@@ -1,12 +1,9 @@
-use borrow.Author.Rules.{rules}
 use Prim.Native.Nat.{◌≤◌, ◌-◌}
-use mathlib.Core.Path.{◌≡◌, refl}
+use mathlib.Core.Path.{◌≡◌}
 use Rattle.lists.specs.Below.{any_below}
 use mathlib.Core.List.{[]}
 use Rattle.fields.specs.Fields.{fields_of}
-use Rattle.lists.proofs.Any.{any_none, any_step, any_end}
 use Rattle.wellformed.specs.WellFormed.{output_at}
-use native.Mathlib.Omega.{arith}
 use Rattle.wellformed.proofs.running.any_output.Given as goal
 
 abbrev pub invariant-loop-i : goal.invariant-loop-i

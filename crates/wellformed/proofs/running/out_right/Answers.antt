@@ -1,10 +1,8 @@
 use mathlib.Core.Path.{◌≡◌, sym, ◌∙◌}
-use mathlib.Core.Bool.{true, false}
-use borrow.Author.Tests.{eq-eqb, ne_eqb}
+use mathlib.Core.Bool.{true}
 use Rattle.geometry.specs.Geometry.{is_range}
 use Rattle.wellformed.proofs.Runs.{range_inside}
 use native.Mathlib.Omega.{arith}
-use borrow.Author.Rules.{rules}
 use Rattle.wellformed.proofs.running.out_right.Goals as goal
 
 pub bounds-owner-p : goal.bounds-owner-p
