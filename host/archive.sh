@@ -1,27 +1,22 @@
 #!/bin/bash
 # Makes what firmware links: target/host/libhost.a and target/host/monitor.h, and prints their sizes. Fails where the archive needs more from outside
-# than memcpy and memset. It needs the toolchain's rt in PATH; gcc and binutils for x86-64 it installs where they are not there.
+# than memcpy and memset. It needs the toolchain's rt in PATH, which proves what it compiles (crate host_c); gcc and binutils for x86-64 it installs where they are not there.
 set -euo pipefail
 cd "$(dirname "$0")/.."
 prefix='' package=gcc
 [ "$(uname -m)" = x86_64 ] || prefix=x86_64-linux-gnu- package=gcc-x86-64-linux-gnu
 command -v "${prefix}gcc" >/dev/null || tools/install "$package"
 out=target/host
-crates='host start_c manifest_c devicemap_c switch' # those with functions for firmware
 
 mkdir -p "$out"
 exec 9>"$out/lock" # two tests may ask for it at a time
 flock 9
 # an archive that is newer than all that it is made of is not made again
-if [ ! -s "$out/libhost.a" ] || [ -n "$(find crates crates.txt host -newer "$out/libhost.a" -print -quit)" ]; then
-    archives=()
-    for crate in $crates; do
-        rt staticlib "$crate" >"target/staticlib-$crate.log" 2>&1 || { tail -n 5 "target/staticlib-$crate.log"; exit 1; }
-        archives+=("target/staticlib/lib$crate.a")
-    done
+if [ ! -s "$out/libhost.a" ] || [ -n "$(find crates crates.txt host -name out -prune -o -type f -newer "$out/libhost.a" -print -quit)" ]; then
+    (cd crates/host_c && rt lib) >"$out/lib.log" 2>&1 || { tail -n 5 "$out/lib.log"; exit 1; }
     # one object, in which the name memmove is the archive's own
     "${prefix}gcc" -std=c11 -O2 -fPIC -ffreestanding -fno-tree-loop-distribute-patterns -Wall -Wextra -Werror -c host/memmove.c -o "$out/memmove.o"
-    "${prefix}ld" -r --whole-archive "${archives[@]}" --no-whole-archive "$out/memmove.o" -o "$out/host.o"
+    "${prefix}ld" -r --whole-archive crates/host_c/out/libhost_c.a --no-whole-archive "$out/memmove.o" -o "$out/host.o"
     "${prefix}objcopy" --localize-symbol=memmove "$out/host.o"
     rm -f "$out/libhost.a"
     "${prefix}ar" rcs "$out/libhost.a" "$out/host.o"

@@ -5,6 +5,8 @@
   which is any function of the crates ENTRY, refuses bad input and asks nothing.
 - A function of a library that is no promise (`fn laws() ensures ..`) has its theorem of one outcome in the specs of crate unique; where that is of a part of the
   outcome only, the function stands in docs/PROMISES.md, "Exceptions to one outcome".
+- No crate can depend on a static library, so that of each export no theorem can be written. It is a library's function instead, called under its own name with the
+  export's parameters in their order, and has that function's parameters, result and clauses word by word; that function has the theorem.
 """
 import pathlib
 import re
@@ -12,7 +14,8 @@ import sys
 
 ROOT = pathlib.Path(__file__).resolve().parent.parent
 HEAD = re.compile(r'\bpub\s+(?:extern\s+"C"\s+)?fn\s+(\w+)')
-ENTRY = {"start", "start_c", "monitor", "manifest", "manifest_c", "devicemap", "devicemap_c", "sha1", "sha1_c", "switch", "wellformed", "wellformed_c", "twin", "host"}
+ENTRY = {"start", "start_c", "monitor", "manifest", "manifest_c", "devicemap", "devicemap_c", "sha_1", "sha1_c", "switch", "wellformed", "wellformed_c", "twin", "host", "host_c", "bench_c"}
+STATIC = set(re.findall(r"^(\w+) staticlib:", (ROOT / "crates.txt").read_text(encoding="utf-8"), re.M))
 IMPL = re.compile(r"^impl\s+(\w+)", re.M)
 
 
@@ -28,7 +31,7 @@ def closing(text, at):
 
 
 def functions(text):
-    """Each public function: name, the type that it is a method of, parameters, result, clauses."""
+    """Each public function: name, the type that it is a method of, parameters, result, clauses with their texts, body."""
     text = re.sub(r"//[^\n]*", "", text)
     spans = [(m.start(), closing(text, text.index("{", m.end())), m.group(1)) for m in IMPL.finditer(text)]
     for m in HEAD.finditer(text):
@@ -41,10 +44,11 @@ def functions(text):
             clause = re.match(r"\s*(requires|ensures)\b[^{]*", text[at:])
             if not clause:
                 break
-            clauses.append(clause.group(1))
-            at = closing(text, at + clause.end())
+            upto = closing(text, at + clause.end())
+            clauses.append((clause.group(1), " ".join(text[at:upto].split())))
+            at = upto
         owner = next((name for a, b, name in spans if a < m.start() < b), "")
-        yield m.group(1), owner, text[begin:end], result.group(1) if result else "", clauses
+        yield m.group(1), owner, text[begin:end], result.group(1) if result else "", clauses, text[at:closing(text, text.index("{", at))]
 
 
 def named(title):
@@ -57,8 +61,28 @@ def named(title):
 def theorem(place, unique):
     """Of what the contract of the function at this place is proved to leave one: Outcome, View or nothing."""
     alias = re.search(rf"^use {re.escape(place)} as (\S+)$", unique, re.M)
-    found = alias and re.search(rf"^  pub {alias.group(1)}-one : One(Outcome|View) {alias.group(1)}\.ended ", unique, re.M)
+    found = alias and re.search(rf"^  pub {alias.group(1)}_one : One(Outcome|View) {alias.group(1)}\.ended ", unique, re.M)
     return found.group(1) if found else ""
+
+
+def said(parameters, result, clauses):
+    """A function's head, so that two can be compared."""
+    return re.sub(r",?\s*\)$", ")", re.sub(r"\(\s+", "(", " ".join(parameters.split()))), " ".join(result.split()), sorted(text for _, text in clauses)
+
+
+def exported(name, parameters, result, clauses, body):
+    """What is amiss with an export of a static library, and the function that it stands for."""
+    given = [re.match(r"\s*(\w+)\s*:", part).group(1) for part in re.split(r",(?![^<(\[]*[>)\]])", parameters[1:-1]) if part.strip()]
+    call = re.fullmatch(rf"\{{\s*(\w+)::{name}\(([^()]*)\);?\s*\}}", body.strip())
+    if not call or [word.strip() for word in call.group(2).split(",") if word.strip()] != given:
+        return f"its body is not one call of a library's {name} with the same arguments"
+    source = ROOT / "crates" / call.group(1) / "src/lib.rt"
+    other = next((f for f in functions(source.read_text(encoding="utf-8")) if f[0] == name and not f[1]), None) if source.exists() else None
+    if other is None:
+        return f"{call.group(1)} has no public function {name}"
+    if said(parameters, result, clauses) != said(*other[2:5]):
+        return f"its head is not that of {call.group(1)}::{name}"
+    return ""
 
 
 def main():
@@ -71,18 +95,24 @@ def main():
         root = ROOT / "crates" / crate / "src" / ("main.rt" if program else "lib.rt")
         if re.search(rf"^mod {path.stem};", root.read_text(encoding="utf-8"), re.M):
             continue  # a module that is not `pub`: no other crate can call what is in it
-        for name, owner, parameters, result, clauses in functions(path.read_text(encoding="utf-8")):
+        for name, owner, parameters, result, clauses, body in functions(path.read_text(encoding="utf-8")):
             total += 1
             where = f"{path.relative_to(ROOT)}: {name}"
             speaks = bool(result) or "&mut" in parameters
-            if "ensures" not in clauses:
+            kinds = {kind for kind, _ in clauses}
+            if "ensures" not in kinds:
                 faults.append(f"{where}: no `ensures`")
-            if "requires" in clauses:
+            if "requires" in kinds:
                 asking.add(f"{crate}::{name}")
                 if crate in ENTRY:
                     faults.append(f"{where}: an entry point with a `requires`")
-            module = "" if path.stem in ("lib", "main") else path.stem + "."
-            place = f"Rattle·{crate}.proofs.{module}{owner + '.' if owner else ''}{name}"
+            if crate in STATIC:
+                amiss = exported(name, parameters, result, clauses, body)
+                faults += [f"{where}: {amiss}"] if amiss else []
+                continue
+            # the toolchain writes a last `_` as `◌`
+            parts = [*([] if path.stem in ("lib", "main") else [path.stem]), *([owner] if owner else []), name]
+            place = ".".join(["Rattle", crate, "specs.contracts", *(re.sub("_$", "◌", part) for part in parts)])
             proved = theorem(place, unique)
             if speaks and not program and not proved:
                 faults.append(f"{where}: no theorem of one outcome names {place}")
