@@ -3,10 +3,8 @@ use Prim.Native.Nat.{ℕ, ◌<◌}
 use native.Mathlib.Nat.{not-suc-le-zero}
 use native.Mathlib.Omega.{arith}
 use mathlib.Core.Path.{◌≡◌, refl, sym, ap, ◌∙◌}
-use mathlib.Core.Bool.{Bool, true, false, not, true≢false}
 use mathlib.Core.List.{List, map}
 use lib.ListN.{length, get_or, set}
-use Rattle.lists.proofs.Logic.{pick_true, pick_false}
 use Rattle.geometry.specs.Geometry.{slot_count, most_pages}
 use Rattle.sha_1.specs.declared.Digest.{Digest}
 use Rattle.fields.specs.declared.Fields.{Fields}
@@ -15,45 +13,16 @@ use Rattle.painting.specs.Painting.{RunsFit, painted_runs}
 use Rattle.rules.specs.Tests.{given}
 use Rattle.state.specs.declared.Card.{Card}
 use Rattle.state.specs.declared.State.{State}
-use Rattle.state.specs.declared.Mode.{Mode}
 use Rattle.state.specs.declared.Mode.TheVariants.{Legacy}
-use Rattle.state.specs.declared.Running.{Running}
 use Rattle.state.specs.declared.Slot.{Slot}
 use Rattle.state.specs.Zero.{no_card, no_slot, zero_slot, zero_running}
 use Rattle.state.specs.Face.{card_of}
 use Rattle.state.proofs.Faces.{card_at_lem}
 use Rattle.change.specs.declared.Turn.{Turn}
 use Rattle.change.specs.declared.Turn.TheVariants.{Kept, Enters, Leaves, Frees, Extends, Enrolls}
-use Rattle.change.specs.declared.Steer.{Steer}
 use Rattle.change.specs.Turns.{changed_by, fresh_slot, with_pcr, Fits}
-use Rattle.change.specs.Parts.{steering, placing, seating, Seats, taken, seat_stored, mode_stored}
+use Rattle.change.specs.Parts.{steering, placing, seating, Seats, seat_stored, mode_stored}
 use Rattle.change.proofs.Given.{given_painted}
-
--- a test that the code asks the other way round
-off : (b : Bool) → not b ≡ true → b ≡ false
-off true e = absurd (true≢false (sym e))
-off false e = refl
-
-on : (b : Bool) → not b ≡ false → b ≡ true
-on true e = refl
-on false e = absurd (true≢false e)
-
--- each part, where it is stored and where it is not
-module _ (s : State) where
-  pub unseated : (t : Turn) (x : Fields) (d : Digest) → not (placing t).seats ≡ true → s ≡ seat_stored s t x d
-  unseated t x d e = sym (pick_false (placing t).seats (taken s (placing t).number (seating (get_or s.slots (placing t).number no_slot) t x d)) s (off (placing t).seats e))
-
-  pub seated_so : (t : Turn) (x : Fields) (d : Digest) → not (placing t).seats ≡ false → taken s (placing t).number (seating (get_or s.slots (placing t).number no_slot) t x d) ≡ seat_stored s t x d
-  seated_so t x d e = sym (pick_true (placing t).seats (taken s (placing t).number (seating (get_or s.slots (placing t).number no_slot) t x d)) s (on (placing t).seats e))
-
-  abbrev moded : Mode → Running → State
-  moded m y = record { pages = s.pages; kept = s.kept; owner = s.owner; slots = s.slots; mode = m; running = y }
-
-  pub unmoded : (x : Steer) → not x.steers ≡ true → s ≡ mode_stored s x
-  unmoded x e = λ i. moded (sym (pick_false x.steers x.mode s.mode (off x.steers e)) i) (sym (pick_false x.steers x.running s.running (off x.steers e)) i)
-
-  pub moded_so : (x : Steer) → not x.steers ≡ false → moded x.mode x.running ≡ mode_stored s x
-  moded_so x e = λ i. moded (sym (pick_true x.steers x.mode s.mode (on x.steers e)) i) (sym (pick_true x.steers x.running s.running (on x.steers e)) i)
 
 -- no run, no other owner
 pub none_painted : (o : List ℕ) → painted_runs o zero_fields.runs 0 zero_fields.r ≡ o
