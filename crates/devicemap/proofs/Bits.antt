@@ -4,7 +4,7 @@ use native.Mathlib.Nat.{mul_assoc, pow-suc, pow-le-pow_right, mod-eq_of_lt, div-
 use native.Mathlib.Numerals.{add-one}
 use native.Mathlib.Omega.{arith}
 use mathlib.Core.Path.{◌≡◌, refl, sym, ap, subst, ◌∙◌}
-use mathlib.Core.Logic.{◌⊎◌, ⊎_elim}
+use mathlib.Core.Logic.{⊎_elim}
 use lib.Bits.{bit_or, or_shifted_r}
 use lib.Pow.{pow-add, pow_pos}
 use Rattle.lists.proofs.Logic.{lt_or_ge}

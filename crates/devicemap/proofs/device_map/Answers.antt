@@ -1,0 +1,51 @@
+use native.Mathlib.Omega.{arith}
+use borrow.Author.Tests.{le-leb, lt-leb}
+use Prim.Native.Nat.{ℕ, ◌≤◌}
+use mathlib.Core.Path.{◌≡◌, sym, ap, ◌∙◌}
+use mathlib.Core.Bool.{true, false}
+use mathlib.Core.List.{List}
+use lib.ListN.{length}
+use lib.Seq.{sets}
+use Rattle.geometry.specs.Geometry.{most_pages}
+use Rattle.state.specs.declared.State.{State}
+use Rattle.state.specs.Face.{face_of}
+use Rattle.wellformed.specs.WellFormed.{state_right}
+use Rattle.wellformed.proofs.Facts.{right_of}
+use Rattle.wellformed.proofs.States.{state_face}
+use Rattle.devicemap.specs.Map.{map_length, mapped, buffer_after}
+use Rattle.devicemap.proofs.Maps.{map_same}
+use Rattle.devicemap.proofs.device_map.Goals as goal
+
+most : (s : State) → state_right s ≡ true → s.pages ≤ most_pages
+most s t = (right_of (face_of s) (state_face s t)).sizes.most
+
+pub returns-then-not-state_right : goal.returns-then-not-state_right
+unfolding mapped buffer_after
+returns-then-not-state_right c =
+    let s = c.args.s in
+    let t : state_right s ≡ false = sym c.state_right.ensures ∙ c.if-not-state_right.true in
+    (rw t, rw t)
+
+pub overflow_add-n : goal.overflow_add-n
+overflow_add-n c = omega (arith, most c.args.s (sym c.state_right.ensures ∙ c.if-not-state_right.false))
+
+pub returns-then-buffer-n : goal.returns-then-buffer-n
+unfolding mapped buffer_after
+returns-then-buffer-n c =
+    let a = c.args in
+    let t : state_right a.s ≡ true = sym c.state_right.ensures ∙ c.if-not-state_right.false in
+    let u = lt-leb (map_length a.s.pages) (length a.buffer.now) c.if-buffer-n.true in
+    (rw (t, u), rw (t, u))
+
+pub fill-requires : goal.fill-requires
+fill-requires c =
+    let m = most c.args.s (sym c.state_right.ensures ∙ c.if-not-state_right.false) in
+    (m, (omega (arith, m), c.if-buffer-n.false))
+
+pub returns : goal.returns
+unfolding mapped buffer_after
+returns c =
+    let a = c.args in
+    let t : state_right a.s ≡ true = sym c.state_right.ensures ∙ c.if-not-state_right.false in
+    let u = le-leb (map_length a.s.pages) (length a.buffer.now) c.if-buffer-n.false in
+    (rw (t, u), rw (t, u) (c.fill.ensures ∙ ap (λ (l : List ℕ). sets a.buffer.now 0 l) (map_same a.s)))
