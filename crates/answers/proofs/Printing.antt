@@ -96,10 +96,6 @@ bytes_told a buffer n c m e f g =
     ap (λ (x : Answer). text_of x buffer) e
     ∙ ap (λ (k : ℕ). (104 ∷ 101 ∷ 120 ∷ 32 ∷ []) ++ ended (pairs (take k buffer))) (sym (g ∙ ap (λ (k : ℕ). clipped k (length buffer)) f))
 
--- room for what is shown
-pub shown_room : (n c m : ℕ) (buffer : List ℕ) → c ≡ clipped n most_shown → m ≡ clipped c (length buffer) → m ≤ length buffer
-shown_room n c m buffer f g = subst (λ (k : ℕ). k ≤ length buffer) (sym g) (clip_le c (length buffer))
-
 pub shown_few : (n c m : ℕ) (buffer : List ℕ) → c ≡ clipped n most_shown → m ≡ clipped c (length buffer) → length (take m buffer) ≤ most_shown
 shown_few n c m buffer f g = omega (arith, length-take m buffer, g, clip_ge c (length buffer), f, clip_le n most_shown)
 

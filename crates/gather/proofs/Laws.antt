@@ -104,12 +104,6 @@ clip_few n h = decided (ltb most_kept n) (λ t. absurd (omega (arith, ltb-true m
 pub clip_many : (n : ℕ) → most_kept < n → clipped n ≡ most_kept
 clip_many n h = decided (ltb most_kept n) (λ t. pick_true _ _ _ t) (λ t. absurd (omega (arith, ltb-false most_kept n t)))
 
-pub clip_small : (n k : ℕ) → k ≡ clipped n → (k ≤ most_kept) × (k ≤ n)
-clip_small n k e =
-    decided (ltb most_kept n)
-    (λ t. let f = e ∙ pick_true _ _ _ t in (omega arith, omega (arith, ltb-true most_kept n t)))
-    (λ t. let f = e ∙ pick_false _ _ _ t in (omega (arith, ltb-false most_kept n t), omega arith))
-
 -- what is read behind what is kept
 module _ (block : List ℕ) (kept n : ℕ) where
   pub received_some : 0 < n → (record { end = kept + n; more = true } ≡ received_of kept n) × (block ≡ with_newline block kept n)

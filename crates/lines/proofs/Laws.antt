@@ -2,7 +2,7 @@
 use Prim.Native.Nat.{ℕ, zero, suc, ◌+◌, ◌/◌, ◌≤◌}
 use native.Mathlib.Numerals.{add-one}
 use native.Mathlib.Omega.{arith}
-use mathlib.Core.Path.{◌≡◌, refl, sym, subst, ap, ◌∙◌}
+use mathlib.Core.Path.{◌≡◌, refl, sym, ap, ◌∙◌}
 use mathlib.Core.Bool.{Bool, true, false}
 use mathlib.Core.List.{List}
 use lib.ListN.{length, take, drop, drop_of_length-le, length-drop, length-take}
@@ -11,10 +11,7 @@ use borrow.Author.Tests.{ne_eqb, eq-eqb}
 use Rattle.lists.specs.Below.{pick, all_below}
 use Rattle.lists.proofs.All.{all_end}
 use Rattle.numerals.proofs.Places.{place_le}
-use Rattle.lines.specs.declared.Verb.{Verb}
-use Rattle.lines.specs.declared.Verb.TheVariants as verb
-use Rattle.lines.specs.declared.Shape.{Shape}
-use Rattle.lines.specs.Grammar.{longest_line, payload_room, shape_of}
+use Rattle.lines.specs.Grammar.{longest_line, payload_room}
 use Rattle.lines.specs.Fields.{space, field_end, rest_of, rest_after, field, same_at, same_text}
 
 pub end_le : (l : List ℕ) (e : ℕ) → e ≡ field_end l → e ≤ length l
@@ -59,25 +56,6 @@ one false r h = omega arith
 
 pub one_space : (c r : ℕ) → r ≡ pick (eqb c 32) 1 0 → r ≤ 1
 one_space c r h = one (eqb c 32) r h
-
--- no command has more than four numbers
-few : (v : Verb) → (shape_of v).numbers ≤ 4
-few verb.Reg = omega arith
-few verb.Unr = omega arith
-few verb.Call = omega arith
-few verb.Ret = omega arith
-few verb.Jmp = omega arith
-few verb.Get = omega arith
-few verb.Put = omega arith
-few verb.Dget = omega arith
-few verb.Dput = omega arith
-few verb.Extp = omega arith
-few verb.Extm = omega arith
-few verb.Pcr = omega arith
-few verb.Other = omega arith
-
-pub few_numbers : (v : Verb) (s : Shape) → s ≡ shape_of v → s.numbers ≤ 4
-few_numbers v s e = subst (λ (x : Shape). x.numbers ≤ 4) (sym e) (few v)
 
 -- a field is no longer than its line
 rest_few : (l : List ℕ) (k : ℕ) → length (rest_after l k) ≤ length l

@@ -39,9 +39,6 @@ pub no_long : (l m : List ℕ) → longest_line < length l → Refused l m
 unfolding is_readable
 no_long l m h = refused l m (rw (lt-leb (length l) longest_line h))
 
-second_no : (a c d : Bool) → a && (false && (c && d)) ≡ false
-second_no a c d = and-false a
-
 third_no : (a b d : Bool) → a && (b && (false && d)) ≡ false
 third_no a b d = rw (and-false b) (and-false a)
 

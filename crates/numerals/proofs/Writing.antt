@@ -5,8 +5,8 @@ use native.Mathlib.Numerals.{add-one}
 use native.Mathlib.Omega.{arith}
 use mathlib.Core.Path.{◌≡◌, refl, sym, subst, ap, ◌∙◌}
 use mathlib.Core.List.{List, [], ◌∷◌, ◌++◌, append-nil, append_assoc}
-use lib.ListN.{length, take, drop, set, length-drop}
-use lib.Seq.{drop-cons, drop-set-lt, get_or-set_same, lt-length-set, take_all}
+use lib.ListN.{length, drop, set}
+use lib.Seq.{drop-cons, drop-set-lt, get_or-set_same, lt-length-set}
 use borrow.Author.Tests.{lt-ltb, le-ltb}
 use Rattle.lists.proofs.Logic.{pick_true, pick_false}
 use Rattle.numerals.specs.Decimal.{digits, decimal}
@@ -60,10 +60,3 @@ digits_start x bytes e = rw e (append-nil (digits 19 x))
 -- a 64-bit number has at most twenty digits
 pub fits_twenty : (x : ℕ) → x < 2 ^ 64 → x < 10 ^ 20
 fits_twenty x h = omega arith
-
--- all from a place on
-pub rest_all : (l : List ℕ) (a n : ℕ) → length l ≡ n → take (n - a) (drop a l) ≡ drop a l
-rest_all l a n e = take_all (n - a) (drop a l) (omega (arith, length-drop a l))
-
-pub rest_long : (l d : List ℕ) (a n : ℕ) → length l ≡ n → drop a l ≡ d → n - a ≡ length d
-rest_long l d a n e f = omega (arith, length-drop a l, ap length f)
