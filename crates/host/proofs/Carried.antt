@@ -2,10 +2,7 @@
 use Prim.Native.Nat.{ℕ, ◌+◌, ◌<◌, ◌^◌}
 use mathlib.Core.Path.{◌≡◌, refl, sym, ap, subst, ◌∙◌}
 use mathlib.Core.List.{List}
-use lib.ListN.{length, length-map, get_or, set}
-use mir.Val.{Val}
-use denote.Laws.{Is}
-use denote.Struct.Declared.{row}
+use lib.ListN.{length, get_or, set}
 use Rattle.geometry.specs.Geometry.{most_pages}
 use Rattle.sha_1.specs.declared.Digest.{Digest}
 use Rattle.fields.specs.declared.Fields.{Fields}
@@ -32,7 +29,6 @@ use Rattle.twin.specs.declared.Asked.TheVariants.{Known, Unknown}
 use Rattle.twin.specs.Twin.{mode_of, number_of, opened_of, shut_of}
 use Rattle.twin.specs.Asked.{asked_of}
 use Rattle.twin.proofs.Laws.{given_back}
-use Rattle.twin.specs.contracts.Monitor as monitor
 use Rattle.host.specs.declared.Heard.{Heard}
 use Rattle.host.specs.Host.{Comes, heard_of, none_heard, stored, hosted, shown, host_asked, host_step, look_for, host_looked}
 
@@ -45,13 +41,6 @@ module _ (m : Monitor) (q : Request) (e : Event) (s : State) (ea : Known e ≡ a
   pub looked_so : looked e s ≡ host_looked m q
   unfolding host_looked looked
   looked_so = ap (looked e) es ∙ ap (λ (a : Asked). seen_in (opened_of m) (look_for a (mode_of m.mode))) ea
-
--- a mode is a 64-bit number, and there is an owner for each page
-pub mode_fits : (m : Monitor) (vs : List Val) → Is (row monitor.the_type) m vs → m.mode < 2 ^ 64
-mode_fits m vs g = g.1.1.1.1.1.1.0.1
-
-pub owner_long : (m : Monitor) (vs : List Val) → Is (row monitor.the_type) m vs → length m.owner ≡ most_pages
-owner_long m vs g = sym (length-map m.owner (λ (v : ℕ). v)) ∙ g.1.1.1.1.0.1.0.1
 
 -- the parts that are stored make the twin of the state after the change
 module _ (m : Monitor) (b : m.mode < 2 ^ 64) (long : length m.owner ≡ most_pages) where

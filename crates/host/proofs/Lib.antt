@@ -1,10 +1,2 @@
-pub mod Arms
-pub mod Arrays
 pub mod Carried
-pub mod Lent
 pub mod Refused
-pub mod Seeing
-pub mod Sweep
-pub mod Tables
-pub mod Told
-pub mod Within

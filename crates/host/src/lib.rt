@@ -155,8 +155,7 @@ fn hear(
 }
 
 // One event, on the lent state: each part that the event changes is stored where it stands.
-#[unsafe(no_mangle)]
-pub extern "C" fn monitor_event(
+pub fn monitor_event(
     m: &mut Monitor,
     q: Request,
     payload: &[u8],
