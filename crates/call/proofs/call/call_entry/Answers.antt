@@ -1,20 +1,15 @@
-use Rattle.call.proofs.Calls.{in_right, out_right_lem, in_open, out_open, open_by, in_4, out_4, in_5, out_5, enter_on, entered_settles, param_ready, param_same, param_in}
+use Rattle.call.proofs.Calls.{open_by, in_4, out_4, in_5, out_5, enter_on, entered_settles, param_ready, param_same, param_in}
 use Rattle.switch.proofs.Kept.{kept_fits, kept_part}
 use Rattle.change.proofs.Settled.{still_settles}
 use Rattle.wellformed.proofs.States.{well_state, well_long}
 use Rattle.rules.specs.Plan.{nothing}
 use Rattle.events.specs.declared.Answer.TheVariants as answer
 use Rattle.state.proofs.Shaped.{state_shape}
-use Rattle.state.specs.Face.{Face, face_of}
-use Rattle.fields.specs.declared.Entry.{Entry}
+use Rattle.state.specs.Face.{face_of}
 use Rattle.lists.specs.Bytes.{part}
 use lib.Seq.{sets}
 use Rattle.geometry.specs.Geometry.{start_of}
-use borrow.Author.Tests.{not-true, not-false}
-use Prim.Native.Nat.{ℕ}
-use mathlib.Core.Path.{◌≡◌, sym, ap, ◌∙◌}
-use mathlib.Core.Bool.{Bool, true}
-use borrow.Author.Rules.{rules}
+use mathlib.Core.Path.{sym, ap, ◌∙◌}
 use native.Mathlib.Omega.{arith}
 use Rattle.call.proofs.call.call_entry.Goals as goal
 

@@ -1,7 +1,6 @@
 use Rattle.call.proofs.Entries.{at_below, nothing_none}
 use mathlib.Core.Bool.{◌&&◌}
 use mathlib.Core.Path.{sym, ◌∙◌}
-use borrow.Author.Rules.{rules}
 use Rattle.call.proofs.places.callable.Goals as goal
 
 pub returns-in-At : goal.returns-in-At

@@ -2,12 +2,9 @@ use Rattle.call.proofs.Entries.{param_hit, param_none}
 use Rattle.fields.specs.Pages.{is_param_at}
 use Rattle.fields.specs.Fields.{fields_of, no_run}
 use Rattle.lists.proofs.First.{first_none, first_more}
-use Rattle.lists.specs.Below.{first_below}
 use lib.ListN.{get_or}
 use borrow.Author.Tests.{eq-eqb, ne_eqb}
-use Prim.Native.Nat.{◌≤◌, ◌-◌}
 use mathlib.Core.List.{[]}
-use mathlib.Core.Path.{◌≡◌}
 use native.Mathlib.Omega.{arith}
 use Rattle.call.proofs.places.param_of.Goals as goal
 

@@ -7,7 +7,6 @@ use lib.Seq.{sets}
 use Prim.Native.Nat.{◌+◌}
 use mathlib.Core.Path.{ap, ◌∙◌}
 use Rattle.geometry.specs.Geometry.{start_of}
-use borrow.Author.Rules.{rules}
 use native.Mathlib.Omega.{arith}
 use Rattle.call.proofs.return_.return_.Goals as goal
 

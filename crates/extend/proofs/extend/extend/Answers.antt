@@ -12,7 +12,6 @@ use lib.ListN.{length}
 use Prim.Native.Nat.{ℕ}
 use borrow.Author.Tests.{lt-ltb, le-ltb}
 use mathlib.Core.Path.{sym, ap, subst, ◌∙◌}
-use borrow.Author.Rules.{rules}
 use Rattle.extend.proofs.extend.extend.Goals as goal
 
 pub returns-then-index-ge-PCRS : goal.returns-then-index-ge-PCRS

@@ -5,7 +5,6 @@ use Rattle.touch.proofs.Ready.{mode_below}
 use Rattle.rules.specs.Decide.{jump_legacy, jump_secure, by_mode}
 use Rattle.state.proofs.Shaped.{state_shape}
 use Rattle.state.specs.Face.{face_of}
-use borrow.Author.Rules.{rules}
 use Rattle.release.proofs.jump.jump.Goals as goal
 
 pub jump_secure-requires : goal.jump_secure-requires

@@ -10,7 +10,6 @@ use Rattle.state.specs.Face.{face_of}
 use Rattle.geometry.specs.Geometry.{page_of}
 use mathlib.Core.Bool.{true, false, ◌&&◌}
 use mathlib.Core.Path.{◌≡◌, sym, ◌∙◌}
-use borrow.Author.Rules.{rules}
 use Rattle.release.proofs.jump.jump_secure.Goals as goal
 
 pub in_code_of-code-requires : goal.in_code_of-code-requires

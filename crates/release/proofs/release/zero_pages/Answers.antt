@@ -5,8 +5,7 @@ use Rattle.geometry.specs.Geometry.{page_size}
 use Rattle.lists.proofs.Pages.{wipe_none}
 use Rattle.lists.specs.Bytes.{wipe}
 use Rattle.lists.specs.Below.{joined}
-use lib.ListN.{length}
-use Prim.Native.Nat.{ℕ, ◌≤◌, ◌-◌}
+use Prim.Native.Nat.{ℕ}
 use mathlib.Core.List.{[]}
 use mathlib.Core.Path.{◌≡◌, refl, ap, ◌∙◌}
 use native.Mathlib.Omega.{arith}

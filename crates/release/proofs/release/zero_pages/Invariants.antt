@@ -1,15 +1,12 @@
-use Rattle.release.proofs.Wiped.{wipe_turn}
-use Rattle.fields.specs.Pages.{run_pages, pages_of}
+use Rattle.fields.specs.Pages.{run_pages}
 use Rattle.fields.specs.Fields.{fields_of}
 use Rattle.geometry.specs.Geometry.{page_size}
-use Rattle.lists.proofs.Pages.{wipe_none}
 use Rattle.lists.specs.Bytes.{wipe}
 use Rattle.lists.specs.Below.{joined}
 use lib.ListN.{length}
-use Prim.Native.Nat.{ℕ, ◌≤◌, ◌-◌}
+use Prim.Native.Nat.{◌≤◌, ◌-◌}
 use mathlib.Core.List.{[]}
-use mathlib.Core.Path.{◌≡◌, refl, ap, ◌∙◌}
-use native.Mathlib.Omega.{arith}
+use mathlib.Core.Path.{◌≡◌}
 use Rattle.release.proofs.release.zero_pages.Given as goal
 
 abbrev pub invariant-loop-i : goal.invariant-loop-i

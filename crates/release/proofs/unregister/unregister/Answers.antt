@@ -8,7 +8,6 @@ use Rattle.state.proofs.Shaped.{state_shape}
 use Rattle.state.specs.Face.{face_of}
 use Rattle.geometry.specs.Geometry.{slot_count}
 use borrow.Author.Tests.{lt-ltb, le-ltb}
-use borrow.Author.Rules.{rules}
 use Rattle.release.proofs.unregister.unregister.Goals as goal
 
 pub returns-then-k-ge-SLOTS : goal.returns-then-k-ge-SLOTS
