@@ -5,7 +5,7 @@ set -eu
 cd "$(dirname "$0")/.."
 work=target/bench/check-c
 mkdir -p "$work"
-command -v gcc >/dev/null || { apt-get update -qq && apt-get install -y -qq gcc >/dev/null; }
+command -v gcc >/dev/null || tools/install gcc
 tests/second/build.sh
 export ASAN_OPTIONS=detect_leaks=0 # no heap is used, and the search for leaks is slow
 

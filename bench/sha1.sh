@@ -1,18 +1,19 @@
 #!/usr/bin/env bash
 # Measures our SHA-1 against plain portable C by gcc -O3 and by clang -O3 (a loop for each twenty rounds as in ours, and five rounds a turn) and
 # against OpenSSL: with the processor's SHA instructions, without them, and with integer code only. Not in the gate.
-# It wants an x86-64, gcc, clang, libssl-dev.
+# It wants the toolchain's rt in PATH, an x86-64, gcc, clang, libssl-dev.
 set -euo pipefail
 cd "$(dirname "$0")/.."
 [ "$(uname -m)" = x86_64 ] || { echo "This machine is no x86-64, for which our code is compiled."; exit 1; }
-out=target/bench
+. bench/machine.sh
+out=target/bench work=target/bench
 mkdir -p "$out"
-rt staticlib sha1_c >"$out/staticlib.log" 2>&1 || { tail -n 20 "$out/staticlib.log"; exit 1; }
+archive . bench_c
 for cc in gcc clang; do
     $cc -O3 -DNAME=plain_$cc -c bench/plain_sha1.c -o "$out/plain_$cc.o"
     $cc -O3 -DNAME=five_$cc -c bench/monitor_sha1.c -o "$out/five_$cc.o"
 done
-gcc -O2 bench/sha1.c "$out"/{plain,five}_{gcc,clang}.o target/staticlib/libsha1_c.a -lcrypto -o "$out/sha1"
+gcc -O2 bench/sha1.c "$out"/{plain,five}_{gcc,clang}.o crates/bench_c/out/libbench_c.a -lcrypto -o "$out/sha1"
 
 row() { # LABEL NAME: that of the last run
     awk -v label="$1" -v name="$2" '$1 == name { printf "| %s | %d | %d | %.2f | %.0f | %.2f |\n", label, $2, 262144000 / $2, $4, $3, $5 }' "$out/run"

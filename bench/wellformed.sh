@@ -3,21 +3,21 @@
 # as fit, at P=8 and P=1,024. Prints ns, instructions and ratio. Not in the gate.
 #
 # Our code is compiled for x86-64. On another processor everything is cross-compiled and run by an emulator: its times say
-# little of a real processor, so there the script also counts the instructions that a call executes. It wants gcc; elsewhere
+# little of a real processor, so there the script also counts the instructions that a call executes. It wants the toolchain's rt in PATH and gcc; elsewhere
 # than on x86-64 also gcc-x86-64-linux-gnu.
 set -euo pipefail
 cd "$(dirname "$0")/.."
 . bench/machine.sh
-out=target/bench
+out=target/bench work=target/bench
 mkdir -p "$out"
-rt staticlib wellformed_c >"$out/staticlib.log" 2>&1 || { tail -n 20 "$out/staticlib.log"; exit 1; }
+archive . bench_c
 count=''
 if [ -n "$run" ]; then
     # the emulator counts each turn of a `rep movsb` as an instruction, so memcpy is told to copy by vectors
     large=1000000
     run="$run -cpu max -E GLIBC_TUNABLES=glibc.cpu.x86_rep_movsb_threshold=$large:glibc.cpu.x86_rep_stosb_threshold=$large" count=yes
 fi
-$gcc -O3 -static bench/wellformed.c bench/plain_wellformed.c target/staticlib/libwellformed_c.a -o "$out/wellformed" 2>"$out/link.log" || { cat "$out/link.log"; exit 1; }
+$gcc -O3 -static bench/wellformed.c bench/plain_wellformed.c crates/bench_c/out/libbench_c.a -o "$out/wellformed" 2>"$out/link.log" || { cat "$out/link.log"; exit 1; }
 
 instructions() { # WHICH STATE: of one more call
     for n in 1 2; do

@@ -3,6 +3,7 @@
 # of lines, and scripts of calls that no line can make. A fixed seed, then a fresh one, which is printed; the first difference is shrunk and shown. Of the fixed seed every answer
 # that can be given must occur.
 #   tests/compare.sh [SEED [SECONDS]]      the fresh seed, and how long it goes on
+# It needs the toolchain's rt in PATH (host/archive.sh), crates/bench/out/bench, cargo and gcc, which it installs where they are not there.
 set -euo pipefail
 cd "$(dirname "$0")/.."
 fresh=${1:-$(od -An -N4 -tu4 /dev/urandom | tr -d ' ')} seconds=${2:-20}

@@ -2,6 +2,7 @@
 # The C interface: the archive and what it needs, the header as C and as C++, tests/host/check.c by two compilers with and without sanitizers,
 # and the deepest stack; tests/compare.sh compares it with the second monitor. On a machine that is no x86-64 the programs run under an emulator, in which the address sanitizer takes
 # all memory there is: there it is left out, and undefined behaviour and the guard bytes around every buffer are watched alone.
+# It needs the toolchain's rt in PATH (host/archive.sh), gcc and clang, which it installs where they are not there.
 set -euo pipefail
 cd "$(dirname "$0")/.."
 host/archive.sh

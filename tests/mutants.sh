@@ -1,6 +1,7 @@
 #!/bin/bash
 # What the comparison is worth: wrong rules are put into the second monitor, one at a time (tests/second/mutants.txt), and each must be found by what
 # tests/compare.sh asks with its fixed seed. Prints which line finds each, and fails where one is not found.
+# It needs the toolchain's rt in PATH (host/archive.sh), crates/bench/out/bench, cargo and gcc, which it installs where they are not there.
 set -euo pipefail
 cd "$(dirname "$0")/.."
 room=$(mktemp -d)

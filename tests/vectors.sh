@@ -1,7 +1,7 @@
 #!/usr/bin/env bash
 # Runs the program vectors on every published SHA-1 vector and on random messages, and holds what it writes to what is expected.
 #   tests/vectors.sh [SEED]
-# It wants target/bin/vectors (rt check vectors) and installs Debian's package python3-cryptography-vectors.
+# It wants crates/vectors/out/vectors (rt ci leaves it, and so does rt run in crates/vectors) and installs Debian's package python3-cryptography-vectors.
 set -euo pipefail
 cd "$(dirname "$0")/.."
 room=$(mktemp -d)
