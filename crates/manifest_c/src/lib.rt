@@ -1,4 +1,4 @@
-// The manifest's reader and writer for C. They ask nothing of their caller beyond what C owes (host/monitor.h).
+// The manifest's reader and writer for C (crate host_c). They ask nothing of their caller beyond what C owes (host/monitor.h).
 #![tactic(auto)]
 
 ghost use Rattle.std.specs.Prelude.{◌≡◌};
@@ -11,8 +11,7 @@ use manifest::{Reading, Written};
 use twin::Reply;
 
 // The manifest's fields, or 3 and all zero.
-#[unsafe(no_mangle)]
-pub extern "C" fn monitor_manifest_read(bytes: &[u8]) -> Reading
+pub fn monitor_manifest_read(bytes: &[u8]) -> Reading
     ensures { result ≡ read_manifest bytes.now }
 {
     manifest::read(bytes)
@@ -36,8 +35,7 @@ fn written(w: Written) -> Reply
 }
 
 // The manifest that has these fields; or 3, or 9.
-#[unsafe(no_mangle)]
-pub extern "C" fn monitor_manifest_write(fields: Fields, buffer: &mut [u8]) -> Reply
+pub fn monitor_manifest_write(fields: Fields, buffer: &mut [u8]) -> Reply
     ensures { answered result buffer.new ≡ host_write fields buffer.old }
 {
     let w = manifest::write(fields, buffer);
