@@ -22,7 +22,6 @@ use Rattle.state.specs.Zero.{zero_pcr}
 use Rattle.state.specs.Face.{Face, face_of, pcrs_of, state_of}
 use Rattle.state.specs.Slots.{extended_pcrs}
 use Rattle.state.proofs.Faces.{state_set}
-use Rattle.events.specs.declared.Answer.TheVariants as answer
 use Rattle.rules.specs.Plan.{refuse}
 use Rattle.rules.specs.Tests.{given, with_card, all_open, free_slot}
 use Rattle.rules.specs.Decide.{register_rule, registered}
