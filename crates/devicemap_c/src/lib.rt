@@ -1,4 +1,4 @@
-// The device map for C. It asks nothing of its caller beyond what C owes (host/monitor.h).
+// The device map, as host_c gives it to C. It asks nothing of its caller beyond what C owes (host/monitor.h).
 #![tactic(auto)]
 
 ghost use Rattle.std.specs.Prelude.{◌≡◌};
@@ -26,8 +26,7 @@ fn mapped(w: Mapped) -> Reply
 }
 
 // The device map of the state; or 1, or 9.
-#[unsafe(no_mangle)]
-pub extern "C" fn monitor_device_map(m: Monitor, buffer: &mut [u8]) -> Reply
+pub fn monitor_device_map(m: Monitor, buffer: &mut [u8]) -> Reply
     ensures { answered result buffer.new ≡ host_map m buffer.old }
 {
     let s = twin::opened(m);

@@ -1,4 +1,4 @@
-// Start for C, over a lent state. It asks nothing of its caller beyond what C owes (host/monitor.h).
+// Start, as host_c gives it to C, over a lent state. It asks nothing of its caller beyond what C owes (host/monitor.h).
 #![tactic(auto)]
 
 ghost use Rattle.std.specs.Prelude.{◌≡◌};
@@ -24,8 +24,7 @@ fn started(pages: usize, kept: usize) -> Begun
 }
 
 // Start: the fresh state, or 4 and the all-zero state.
-#[unsafe(no_mangle)]
-pub extern "C" fn monitor_start(m: &mut Monitor, pages: usize, kept: usize) -> u8
+pub fn monitor_start(m: &mut Monitor, pages: usize, kept: usize) -> u8
     ensures { (result ≡ (host_start pages kept).number) × (m.new ≡ (host_start pages kept).monitor) }
 {
     let o = started(pages, kept);

@@ -1,4 +1,4 @@
-// The well-formedness test for C, to be timed against a C program.
+// The well-formedness test, as bench_c gives it to C, to be timed against a C program.
 #![tactic(auto)]
 
 ghost use Rattle.std.specs.Prelude.{◌≡◌};
@@ -7,8 +7,7 @@ ghost use Rattle.twin.specs.Twin.{opened_of};
 
 use twin::Monitor;
 
-#[unsafe(no_mangle)]
-pub extern "C" fn guddaroox_well_formed(m: Monitor, length: usize) -> bool
+pub fn guddaroox_well_formed(m: Monitor, length: usize) -> bool
     ensures { result ≡ well_formed (opened_of m) length }
 {
     let s = twin::opened(m);
