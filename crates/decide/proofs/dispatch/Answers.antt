@@ -1,7 +1,7 @@
 use Rattle.decide.proofs.Outs.{mode_of_lem}
 use Rattle.decide.proofs.Ends.{register_end, unregister_end, call_end, return_end, jump_end, read_end, write_end, device_read_end, device_write_end, extend_end, pcr_end}
 use Rattle.decide.specs.Allowed.{allowed}
-use Rattle.decide.proofs.Sights.{at_page, at_other, at_slot, slot_below, slot_runs}
+use Rattle.decide.proofs.Sights.{at_page, at_slot, slot_runs}
 use Rattle.wellformed.proofs.States.{well_state}
 use Rattle.touch.proofs.Ready.{mode_below}
 use Rattle.state.proofs.Shaped.{state_shape}

@@ -1,6 +1,5 @@
 use Rattle.decide.specs.Looks.{seen_in, looked}
 use mathlib.Core.Path.{ap, ◌∙◌}
-use borrow.Author.Rules.{rules}
 use Rattle.decide.proofs.looked.Goals as goal
 
 pub returns : goal.returns
