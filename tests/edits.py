@@ -117,11 +117,13 @@ def said_in(log):
 
 def first_causes(log, crate):
     """The first cause of each function that is refused, its own or of a law that it wants, and of each law that no function is refused for want of."""
-    first, laws, wants = {}, {}, collections.defaultdict(list)
+    first, laws, wants, cut = {}, {}, collections.defaultdict(list), []
     for place, line, said, declared in said_in(log):
         function, follows = crate.at(place, line), FOLLOWS.search(said.split("\n")[0])
         if follows:  # the declarations that were not checked, `a, b (via a)`, or the function whose proof has them
-            for name in [function] if function else re.sub(r" \(via [^)]*\)", "", follows.group(2)).split(", "):
+            names, more = re.subn(r" and \d+ more$", "", re.sub(r" \(via [^)]*\)", "", follows.group(2)))
+            cut += [follows.group(1)] * more  # some of those that want it are not listed
+            for name in [function] if function else names.split(", "):
                 wants[name].append(follows.group(1))
         elif function:
             first.setdefault(function, (f"{place}:{line}", said))
@@ -137,6 +139,10 @@ def first_causes(log, crate):
                 first.setdefault(function, laws[law])
             todo += [other for other in wants[law] if other not in seen]
             seen.update(todo)
+        for law in cut:  # it wants what is listed nowhere
+            if function not in first and law in laws:
+                met.add(law)
+                first[function] = laws[law]
     return first | {law: cause for law, cause in laws.items() if law not in met}
 
 
