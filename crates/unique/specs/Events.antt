@@ -31,7 +31,7 @@ use Rattle.call.specs.contracts.call.call as call_call
 use Rattle.call.specs.contracts.places.slot_for as call_slot_for
 use Rattle.call.specs.contracts.places.param_of as call_param_of
 use Rattle.call.specs.contracts.places.param_start as call_param_start
-use Rattle.call.specs.contracts.return◌.return◌ as call_return
+use Rattle.call.specs.contracts.return_.return_ as call_return
 use Rattle.enroll.specs.contracts.free.all_open as enroll_all_open
 use Rattle.enroll.specs.contracts.free.free_slot as enroll_free_slot
 use Rattle.enroll.specs.contracts.measure.measured as enroll_measured
