@@ -110,9 +110,8 @@ def main():
                 amiss = exported(name, parameters, result, clauses, body)
                 faults += [f"{where}: {amiss}"] if amiss else []
                 continue
-            # the toolchain writes a last `_` as `◌`
-            parts = [*([] if path.stem in ("lib", "main") else [path.stem]), *([owner] if owner else []), name]
-            place = ".".join(["Rattle", crate, "specs.contracts", *(re.sub("_$", "◌", part) for part in parts)])
+            module = "" if path.stem in ("lib", "main") else path.stem + "."
+            place = f"Rattle.{crate}.specs.contracts.{module}{owner + '.' if owner else ''}{name}"
             proved = theorem(place, unique)
             if speaks and not program and not proved:
                 faults.append(f"{where}: no theorem of one outcome names {place}")
