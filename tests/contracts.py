@@ -70,18 +70,31 @@ def said(parameters, result, clauses):
     return re.sub(r",?\s*\)$", ")", re.sub(r"\(\s+", "(", " ".join(parameters.split()))), " ".join(result.split()), sorted(text for _, text in clauses)
 
 
-def exported(name, parameters, result, clauses, body):
+def meant(text, clauses):
+    """From where each word of the clauses is that the file brings in."""
+    found = {}
+    for path, names, alias in re.findall(r"^(?:ghost )?use ([^;{\n]+?)(?:\.\{([^}]*)\}|::\{([^}]*)\})?;", text, re.M):
+        for name in (names or alias).split(",") if names or alias else [re.split(r"\.|::", path)[-1]]:
+            old, _, new = (path if not (names or alias) else name.strip()).partition(" as ")
+            found[new or re.split(r"\.|::", old)[-1]] = old if not (names or alias) else f"{path}.{old}"
+    return {word: found[word] for _, clause in clauses for word in re.findall(r"[\w◌≡≤<+×']+", clause) if word in found}
+
+
+def exported(name, parameters, result, clauses, body, text):
     """What is amiss with an export of a static library, and the function that it stands for."""
     given = [re.match(r"\s*(\w+)\s*:", part).group(1) for part in re.split(r",(?![^<(\[]*[>)\]])", parameters[1:-1]) if part.strip()]
     call = re.fullmatch(rf"\{{\s*(\w+)::{name}\(([^()]*)\);?\s*\}}", body.strip())
     if not call or [word.strip() for word in call.group(2).split(",") if word.strip()] != given:
         return f"its body is not one call of a library's {name} with the same arguments"
     source = ROOT / "crates" / call.group(1) / "src/lib.rt"
-    other = next((f for f in functions(source.read_text(encoding="utf-8")) if f[0] == name and not f[1]), None) if source.exists() else None
+    below = source.read_text(encoding="utf-8") if source.exists() else ""
+    other = next((f for f in functions(below) if f[0] == name and not f[1]), None)
     if other is None:
         return f"{call.group(1)} has no public function {name}"
     if said(parameters, result, clauses) != said(*other[2:5]):
         return f"its head is not that of {call.group(1)}::{name}"
+    if meant(text, clauses) != meant(below, other[4]):
+        return f"its clauses take a word from elsewhere than {call.group(1)}::{name}"
     return ""
 
 
@@ -95,7 +108,8 @@ def main():
         root = ROOT / "crates" / crate / "src" / ("main.rt" if program else "lib.rt")
         if re.search(rf"^mod {path.stem};", root.read_text(encoding="utf-8"), re.M):
             continue  # a module that is not `pub`: no other crate can call what is in it
-        for name, owner, parameters, result, clauses, body in functions(path.read_text(encoding="utf-8")):
+        text = path.read_text(encoding="utf-8")
+        for name, owner, parameters, result, clauses, body in functions(text):
             total += 1
             where = f"{path.relative_to(ROOT)}: {name}"
             speaks = bool(result) or "&mut" in parameters
@@ -107,7 +121,7 @@ def main():
                 if crate in ENTRY:
                     faults.append(f"{where}: an entry point with a `requires`")
             if crate in STATIC:
-                amiss = exported(name, parameters, result, clauses, body)
+                amiss = exported(name, parameters, result, clauses, body, text)
                 faults += [f"{where}: {amiss}"] if amiss else []
                 continue
             module = "" if path.stem in ("lib", "main") else path.stem + "."
