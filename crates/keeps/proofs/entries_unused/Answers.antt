@@ -15,9 +15,8 @@ loop-i-init c = ((omega arith, omega arith), sym (all_of _ c.args.e (λ i h. rw 
 
 pub loop-i-preserved : goal.loop-i-preserved
 loop-i-preserved c =
-    let l = c in
-    let a = l.args in
+    let a = c.args in
     let f = fields_of 0 a.e [] a.entries in
-    let x = entry_at f l.loop-i.i in
-    let e : eqb x.address 0 && (eqb x.input 0 && eqb x.output 0) ≡ entry_free_at f l.loop-i.i = rw (le-ltb l.loop-i.i a.e l.loop-i.invariant.0.0) in
-    ((omega arith, omega arith), zeros_step (entry_free_at f) l.loop-i.i l.loop-i.address l.loop-i.input l.loop-i.output x.address x.input x.output l.loop-i.invariant.1 e)
+    let x = entry_at f c.loop-i.i in
+    let e : eqb x.address 0 && (eqb x.input 0 && eqb x.output 0) ≡ entry_free_at f c.loop-i.i = rw (le-ltb c.loop-i.i a.e c.loop-i.invariant.0.0) in
+    ((omega arith, omega arith), zeros_step (entry_free_at f) c.loop-i.i c.loop-i.address c.loop-i.input c.loop-i.output x.address x.input x.output c.loop-i.invariant.1 e)

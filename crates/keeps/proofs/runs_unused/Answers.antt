@@ -15,9 +15,8 @@ loop-i-init c = ((omega arith, omega arith), sym (all_of _ c.args.r (λ i h. rw 
 
 pub loop-i-preserved : goal.loop-i-preserved
 loop-i-preserved c =
-    let l = c in
-    let a = l.args in
+    let a = c.args in
     let f = fields_of a.r 0 a.runs [] in
-    let x = run_at f l.loop-i.i in
-    let e : eqb x.kind 0 && (eqb x.count 0 && eqb x.first 0) ≡ run_free_at f l.loop-i.i = rw (le-ltb l.loop-i.i a.r l.loop-i.invariant.0.0) in
-    ((omega arith, omega arith), zeros_step (run_free_at f) l.loop-i.i l.loop-i.kind l.loop-i.count l.loop-i.first x.kind x.count x.first l.loop-i.invariant.1 e)
+    let x = run_at f c.loop-i.i in
+    let e : eqb x.kind 0 && (eqb x.count 0 && eqb x.first 0) ≡ run_free_at f c.loop-i.i = rw (le-ltb c.loop-i.i a.r c.loop-i.invariant.0.0) in
+    ((omega arith, omega arith), zeros_step (run_free_at f) c.loop-i.i c.loop-i.kind c.loop-i.count c.loop-i.first x.kind x.count x.first c.loop-i.invariant.1 e)

@@ -5,14 +5,12 @@ use Rattle.call.proofs.places.callable.Goals as goal
 
 pub returns-in-At : goal.returns-in-At
 returns-in-At c =
-    let z = c in
-    let a = z.args in
+    let a = c.args in
     let e = sym c.entry_found-found.ensures ∙ c.in-At.is in
-    sym (λ i. c.if-registered-under.true i && at_below a.slot.card a.address z.requires _ e i)
+    sym (λ i. c.if-registered-under.true i && at_below a.slot.card a.address c.requires _ e i)
 
 pub returns-in-Nothing : goal.returns-in-Nothing
 returns-in-Nothing c =
-    let z = c in
-    let a = z.args in
+    let a = c.args in
     let e = sym c.entry_found-found.ensures ∙ c.in-Nothing.is in
-    sym (λ i. c.if-registered-under.true i && nothing_none a.slot.card a.address z.requires e i)
+    sym (λ i. c.if-registered-under.true i && nothing_none a.slot.card a.address c.requires e i)

@@ -16,8 +16,7 @@ loop-k-init c = (omega arith, first_none _)
 
 pub callable-requires : goal.callable-requires
 callable-requires c =
-    let z = c in
-    few_entries z.args.s z.requires c.loop-k.k c.loop-k-test.true
+    few_entries c.args.s c.requires c.loop-k.k c.loop-k-test.true
 
 pub returns-then-callable : goal.returns-then-callable
 unfolding slot_for

@@ -11,7 +11,5 @@ pub loop-k-init : goal.loop-k-init
 loop-k-init c = (omega arith, (joined_none _ _ _, omega arith))
 
 pub loop-k-preserved : goal.loop-k-preserved
-loop-k-preserved c = let l = c in
-    let s = l in
-    let g = c.put_entry in
-    (omega arith, (joined_put s.args.buffer.now s.args.at l.loop-k.k (s.args.at + 8 * l.loop-k.k) (entry_bytes_at (fields_of 0 s.args.e [] s.args.entries)) l.loop-k.invariant.1.0 (λ j. entry_long _) refl g.ensures, g.auto.buffer ∙ l.loop-k.invariant.1.1))
+loop-k-preserved c = let g = c.put_entry in
+    (omega arith, (joined_put c.args.buffer.now c.args.at c.loop-k.k (c.args.at + 8 * c.loop-k.k) (entry_bytes_at (fields_of 0 c.args.e [] c.args.entries)) c.loop-k.invariant.1.0 (λ j. entry_long _) refl g.ensures, g.auto.buffer ∙ c.loop-k.invariant.1.1))

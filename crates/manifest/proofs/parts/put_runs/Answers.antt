@@ -11,7 +11,5 @@ pub loop-k-init : goal.loop-k-init
 loop-k-init c = (omega arith, (joined_none _ _ _, omega arith))
 
 pub loop-k-preserved : goal.loop-k-preserved
-loop-k-preserved c = let l = c in
-    let s = l in
-    let g = c.put_run in
-    (omega arith, (joined_put s.args.buffer.now 0 l.loop-k.k (8 * l.loop-k.k) (run_bytes_at (fields_of s.args.r 0 s.args.runs [])) l.loop-k.invariant.1.0 (λ j. run_long _) (omega arith) g.ensures, g.auto.buffer ∙ l.loop-k.invariant.1.1))
+loop-k-preserved c = let g = c.put_run in
+    (omega arith, (joined_put c.args.buffer.now 0 c.loop-k.k (8 * c.loop-k.k) (run_bytes_at (fields_of c.args.r 0 c.args.runs [])) c.loop-k.invariant.1.0 (λ j. run_long _) (omega arith) g.ensures, g.auto.buffer ∙ c.loop-k.invariant.1.1))

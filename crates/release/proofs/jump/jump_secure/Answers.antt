@@ -14,27 +14,24 @@ use Rattle.release.proofs.jump.jump_secure.Goals as goal
 
 pub in_code_of-code-requires : goal.in_code_of-code-requires
 in_code_of-code-requires c =
-    let z = c in
-    let a = z.args in
-    few_runs_in a.s (well_state a.s _ z.requires.0) a.k a.slot z.requires.1.0 z.requires.1.1.1
+    let a = c.args in
+    few_runs_in a.s (well_state a.s _ c.requires.0) a.k a.slot c.requires.1.0 c.requires.1.1.1
 
 pub returns-then-own-code : goal.returns-then-own-code
 returns-then-own-code c = λ payload.
-    let z = c in
-    let a = z.args in
+    let a = c.args in
     let o : own_code (face_of a.s) a.k (page_of a.address) ≡ true =
-    sym (own_code_lem a.s a.k (page_of a.address) a.v a.slot z.requires.1.1.0 z.requires.1.1.1) ∙ sym (λ i. c.is_own-own.ensures i && c.in_code_of-code.ensures i) ∙ c.if-own-code.true in
+    sym (own_code_lem a.s a.k (page_of a.address) a.v a.slot c.requires.1.1.0 c.requires.1.1.1) ∙ sym (λ i. c.is_own-own.ensures i && c.in_code_of-code.ensures i) ∙ c.if-own-code.true in
     rw (jump_own (face_of a.s) a.address a.k o)
-    (still_settles a.s (state_shape a.s _ z.well_formed.0).slots_long nothing answer.Done payload a.memory.now _ c.kept.ensures)
+    (still_settles a.s (state_shape a.s _ c.well_formed.0).slots_long nothing answer.Done payload a.memory.now _ c.kept.ensures)
 
 pub release-requires : goal.release-requires
-release-requires c = let z = c in runs_in_lem z.args.s _ z.requires.0 z.args.k z.args.slot z.requires.1.0 z.requires.1.1.1
+release-requires c = runs_in_lem c.args.s _ c.requires.0 c.args.k c.args.slot c.requires.1.0 c.requires.1.1.1
 
 pub returns : goal.returns
 returns c = λ payload.
-    let z = c in
-    let a = z.args in
+    let a = c.args in
     let o : own_code (face_of a.s) a.k (page_of a.address) ≡ false =
-    sym (own_code_lem a.s a.k (page_of a.address) a.v a.slot z.requires.1.1.0 z.requires.1.1.1) ∙ sym (λ i. c.is_own-own.ensures i && c.in_code_of-code.ensures i) ∙ c.if-own-code.false in
+    sym (own_code_lem a.s a.k (page_of a.address) a.v a.slot c.requires.1.1.0 c.requires.1.1.1) ∙ sym (λ i. c.is_own-own.ensures i && c.in_code_of-code.ensures i) ∙ c.if-own-code.false in
     rw (jump_away (face_of a.s) a.address a.k o)
-    (released_settles a.s a.k (state_shape a.s _ z.well_formed.0).slots_long z.requires.1.0 (answer.Terminated a.k) payload a.memory.now _ a.slot z.requires.1.1.1 (well_state a.s _ z.requires.0) _ c.release.ensures.0 c.release.ensures.1)
+    (released_settles a.s a.k (state_shape a.s _ c.well_formed.0).slots_long c.requires.1.0 (answer.Terminated a.k) payload a.memory.now _ a.slot c.requires.1.1.1 (well_state a.s _ c.requires.0) _ c.release.ensures.0 c.release.ensures.1)

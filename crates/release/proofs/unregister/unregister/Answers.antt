@@ -12,30 +12,26 @@ use Rattle.release.proofs.unregister.unregister.Goals as goal
 
 pub returns-then-k-ge-SLOTS : goal.returns-then-k-ge-SLOTS
 returns-then-k-ge-SLOTS c = λ payload.
-    let z = c in
-    let a = z.args in
+    let a = c.args in
     rw (unregister_8 (face_of a.s) a.mark a.k (rw (le-ltb a.k slot_count c.if-k-ge-SLOTS.true)))
-    (still_settles a.s (state_shape a.s _ z.well_formed.0).slots_long nothing (answer.Refused 8) payload a.memory.now _ c.kept.ensures)
+    (still_settles a.s (state_shape a.s _ c.well_formed.0).slots_long nothing (answer.Refused 8) payload a.memory.now _ c.kept.ensures)
 
 pub release-requires : goal.release-requires
 release-requires c =
-    let z = c in
     let l = c.if-k-ge-SLOTS.false in
-    runs_in_lem z.args.s _ z.requires.0 z.args.k z.args.slot l (z.requires.1 l)
+    runs_in_lem c.args.s _ c.requires.0 c.args.k c.args.slot l (c.requires.1 l)
 
 pub returns-then-registered-under : goal.returns-then-registered-under
 returns-then-registered-under c = λ payload.
-    let z = c in
-    let a = z.args in
+    let a = c.args in
     let l = c.if-k-ge-SLOTS.false in
-    let o = z.requires.1 l in
+    let o = c.requires.1 l in
     rw (unregister_on (face_of a.s) a.mark a.k (rw (lt-ltb a.k slot_count l, ← card_is a.s a.k a.slot o) c.if-registered-under.true))
-    (released_settles a.s a.k (state_shape a.s _ z.well_formed.0).slots_long l answer.Done payload a.memory.now _ a.slot o (well_state a.s _ z.requires.0) _ c.release.ensures.0 c.release.ensures.1)
+    (released_settles a.s a.k (state_shape a.s _ c.well_formed.0).slots_long l answer.Done payload a.memory.now _ a.slot o (well_state a.s _ c.requires.0) _ c.release.ensures.0 c.release.ensures.1)
 
 pub returns : goal.returns
 returns c = λ payload.
-    let z = c in
-    let a = z.args in
+    let a = c.args in
     let l = c.if-k-ge-SLOTS.false in
-    rw (unregister_8 (face_of a.s) a.mark a.k (rw (lt-ltb a.k slot_count l, ← card_is a.s a.k a.slot (z.requires.1 l)) c.if-registered-under.false))
-    (still_settles a.s (state_shape a.s _ z.well_formed.0).slots_long nothing (answer.Refused 8) payload a.memory.now _ c.kept-2.ensures)
+    rw (unregister_8 (face_of a.s) a.mark a.k (rw (lt-ltb a.k slot_count l, ← card_is a.s a.k a.slot (c.requires.1 l)) c.if-registered-under.false))
+    (still_settles a.s (state_shape a.s _ c.well_formed.0).slots_long nothing (answer.Refused 8) payload a.memory.now _ c.kept-2.ensures)
