@@ -43,7 +43,7 @@ UNFIT = re.compile(r"that can be named (?:from )?here|has no field `|is not in s
 SAID = re.compile(r"^(?:note: )?(?:\./)?(\S+?):(\d+):\d+: (?:error: )?(.*)$")
 DECLARED = re.compile(r"^`([^`]+)`: ")
 FOLLOWS = re.compile(r"declarations? that depends? on `([^`]+)`, which was (?:rejected|not admitted), (?:was|were) not checked: (.*)$")  # the one has its own line
-HEAD = re.compile(r'^\s*(?:#\[unsafe\(no_mangle\)\]\s*)?(pub\s+)?(?:extern "C" )?fn (\w+)', re.M)
+HEAD = re.compile(r'^\s*(?:#\[[^\]]*\]\s*)*(pub\s+)?(?:extern "C" )?fn (\w+)', re.M)  # with the attributes before it, where a refusal stands
 
 
 class Crate:
