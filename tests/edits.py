@@ -36,6 +36,7 @@ FACT = re.compile(r"it is not proved that"
                   r"|expected type `|` *\n? *≟ `"
                   r"|(?:as printed|computed as far as they go), the two types"
                   r"|computed as far as they go, the two values"  # both ends of an equation computed, and they are not the same
+                  r"|this λ's body is `.*`, but the extension \(path\) type requires"  # so are the ends of a path that is written out
                   r"|`(?:omega|search|rw|simp|cc|grind)`(?::| met)"
                   r"|list the missing equation with its arguments|give a proof of that as the last argument")
 # what is said where a proof file does not fit the code's shape: it says nothing about the contract
