@@ -141,12 +141,11 @@ exec {COPROC[1]}>&-
 wait "$program"
 count=$((count + 1))
 
-# where reading or writing fails, the program ends by itself: with status 1 and a line that says why, or that of the signal
+# where reading or writing fails, the program ends by itself. It has no status of its own: 0, or that of the signal.
 ends() { # NAME STATUS COMMAND..
     local status=0
-    timeout 60 "${@:3}" 2>"$room/complained" || status=$?
-    [[ " $2 " == *" $status "* ]] || { echo "bench.sh: $1: status $status, not $2"; cat "$room/complained"; exit 1; }
-    [ "$status" -ne 1 ] || grep -q '^Error: ' "$room/complained" || { echo "bench.sh: $1: status 1, and not why"; exit 1; }
+    timeout 60 "${@:3}" || status=$?
+    [[ " $2 " == *" $status "* ]] || { echo "bench.sh: $1: status $status, not $2"; exit 1; }
     count=$((count + 1))
 }
 cp examples/story.in "$room/in"
@@ -159,17 +158,17 @@ too_large() { (trap '' XFSZ; ulimit -f 1; tests/run bench <"$room/in" >"$room/wr
 slow_reader() { yes 'get 0 4096' | head -n 40 | tests/run bench | (while dd bs=4000 count=1 status=none | grep -q .; do sleep 0.01; done); }
 export room
 export -f closed_output full_output closed_input directory reader_gone too_large slow_reader
-ends 'closed output' 1 bash -c closed_output
-ends 'full output' 1 bash -c full_output
-ends 'closed input' 1 bash -c closed_input
+ends 'closed output' 0 bash -c closed_output
+ends 'full output' 0 bash -c full_output
+ends 'closed input' 0 bash -c closed_input
 [ ! -s "$room/wrote" ] || { echo 'bench.sh: output without input'; exit 1; }
-ends 'a directory for input' 1 bash -c directory
+ends 'a directory for input' 0 bash -c directory
 [ ! -s "$room/wrote" ] || { echo 'bench.sh: output without input'; exit 1; }
-ends 'a reader that has gone' '1 141' bash -c reader_gone # 141 is SIGPIPE's, 1 where the caller ignores it
-ends 'a reader that has gone, and no signal for it' 1 bash -c 'trap "" PIPE; reader_gone'
+ends 'a reader that has gone' '0 141' bash -c reader_gone # 141 is SIGPIPE's, 0 where the caller ignores it
+ends 'a reader that has gone, and no signal for it' 0 bash -c 'trap "" PIPE; reader_gone'
 for _ in $(seq 300); do cat examples/story.in; done >"$room/in"
 tests/run bench <"$room/in" >"$room/out"
-ends 'a file of a kilobyte at most' 1 bash -c too_large
+ends 'a file of a kilobyte at most' 0 bash -c too_large
 cmp <(head -c 1024 "$room/out") "$room/wrote" || { echo 'bench.sh: a short write'; exit 1; }
 ends 'a slow reader' 0 bash -c slow_reader
 echo "bench.sh: $count inputs, each with the output or the end that is expected"

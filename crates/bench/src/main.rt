@@ -2,13 +2,12 @@
 // What the bytes that are read make of state, memory, answer buffer and output is desk::serve's contract; here they are only read and written.
 #![tactic(auto)]
 
-ghost use Rattle.std.specs.Prelude.{◌≤◌, ◌<◌, length, IfOk};
+ghost use Rattle.std.specs.Prelude.{◌≤◌, ◌<◌, length};
 ghost use Rattle.lines.specs.Grammar.{payload_room};
 ghost use Rattle.gather.specs.Lines.{most_kept};
 
 use geometry::Geometry;
 use state::State;
-use std::io;
 use std::io::{Read, Write};
 
 // Of what is read or written at a time.
@@ -25,22 +24,32 @@ struct Part {
     more: bool,
 }
 
+// How many bytes were read: none where the input has ended, or where reading fails.
+fn some_read<R: Read>(input: &mut R, buf: &mut [u8]) -> usize
+    ensures { result ≤ length buf.new }
+{
+    match input.read(buf) {
+        Ok(n) => n,
+        Err(_) => 0,
+    }
+}
+
 // If more is wanted, the begin of a line that has not ended goes to the block's front, and what is read next behind it.
-fn refill<R: Read>(input: &mut R, wanted: bool, block: &mut [u8], part: Part) -> io::Result<Part>
+fn refill<R: Read>(input: &mut R, wanted: bool, block: &mut [u8], part: Part) -> Part
     requires { (part.at ≤ part.end) × (part.end ≤ length block.old) × (most_kept < length block.old) }
-    ensures { IfOk result (λ next. (next.at ≤ next.end) × (next.end ≤ length block.old)) }
+    ensures { (result.at ≤ result.end) × (result.end ≤ length block.old) }
 {
     if !wanted {
-        return Ok(part);
+        return part;
     }
     let kept = gather::carry(block, part.at, part.end);
-    let n = input.read(&mut block[kept..])?;
+    let n = some_read(input, &mut block[kept..]);
     let text = gather::received(block, kept, n);
-    Ok(Part {
+    Part {
         at: 0,
         end: text.end,
         more: text.more,
-    })
+    }
 }
 
 // Lines are heard and answers written to the end of the input, or to the first read or write that fails.
@@ -53,7 +62,7 @@ fn run<R: Read, W: Write>(
     memory: &mut [u8],
     buffer: &mut [u8],
     out: &mut [u8],
-) -> io::Result<()>
+)
     requires { (most_kept < length block.old) × (payload_room ≤ length payload.old) }
 {
     let mut state = begun;
@@ -62,27 +71,27 @@ fn run<R: Read, W: Write>(
         end: 0,
         more: true,
     };
+    let mut going = true;
     // A proved loop has to end: no input has so many blocks.
     for _ in 0..u64::MAX {
+        if !going {
+            break;
+        }
         let at = part.at;
         let end = part.end;
         let heard = desk::serve(&block[at..end], state, payload, memory, buffer, out);
         state = heard.state;
         part.at = at + heard.at;
         let used = heard.used;
-        output.write_all(&out[..used])?;
-        if (used == 0) & !part.more {
-            break;
-        }
-        part = refill(input, (used == 0) & part.more, block, part)?;
+        going = output.write_all(&out[..used]).is_ok() & ((0 < used) | part.more);
+        part = refill(input, (used == 0) & part.more, block, part);
     }
-    Ok(())
 }
 
 // The memory of the eight pages that it runs on.
 const MEMORY: usize = 8 * Geometry::PAGE;
 
-fn main(rt: HostRuntime) -> io::Result<()> {
+fn main(rt: HostRuntime) {
     let begun = start::start(8, 1);
     let mut block = [0u8; BLOCK];
     let mut payload = [0u8; lines::PAYLOAD_ROOM];
@@ -99,5 +108,5 @@ fn main(rt: HostRuntime) -> io::Result<()> {
         &mut memory,
         &mut buffer,
         &mut out,
-    )
+    );
 }
