@@ -5,7 +5,7 @@ import sys
 
 ROOT = pathlib.Path(__file__).resolve().parent.parent
 PAGES = [ROOT / "README.md", *sorted((ROOT / "docs").glob("*.md"))]
-SOURCES = {c.name: "\n".join(f.read_text(encoding="utf-8") for f in sorted(c.rglob("*")) if f.suffix in (".rt", ".antt"))
+SOURCES = {c.name: "\n".join(f.read_text(encoding="utf-8") for f in sorted(c.rglob("*")) if f.suffix in (".rt", ".antt") and "out" not in f.relative_to(c).parts)
            for c in (ROOT / "crates").iterdir() if c.is_dir()}
 WRONG = {c.name: re.findall(r"^wrong: (\w+) of ", "\n".join(e.read_text(encoding="utf-8") for e in c.glob("must-fail/*.edit")), re.M)
          for c in (ROOT / "crates").iterdir() if c.is_dir()}

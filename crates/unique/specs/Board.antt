@@ -17,7 +17,7 @@ use borrow.Fn.World.{w₀}
 use borrow.Fn.Read.{r_last}
 use Rattle.unique.specs.One.{Says, OneOutcome, told}
 
--- A contract over a lent struct is proved by hand, and the toolchain makes no reading of it: its own clause, by the toolchain's rule for a plain fact.
+-- What the contract says, under a name that a wrong answer can be given for.
 abbrev pub start_c_monitor_start_says : Says start_c_monitor_start.ended
 start_c_monitor_start_says κs a z e = told ((start_c_monitor_start.clauses w₀.𝓛 w₀.𝓜.mem w₀.𝓡.run κs a).ensures tt z e) (r_last _)
 

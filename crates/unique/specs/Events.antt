@@ -49,7 +49,7 @@ use Rattle.change.specs.Turns.{settled}
 use Rattle.decide.specs.Allowed.{out_of}
 use Rattle.unique.specs.One.{Says, OneOutcome, told, OneView}
 
--- A contract over a lent struct is proved by hand, and the toolchain makes no reading of it: its own clause, by the toolchain's rule for a plain fact.
+-- What the contract says, under a name that a wrong answer can be given for.
 abbrev pub switch_monitor_enter_says : Says switch_monitor_enter.ended
 switch_monitor_enter_says κs a z e = told ((switch_monitor_enter.clauses w₀.𝓛 w₀.𝓜.mem w₀.𝓡.run κs a).ensures tt z e) (r_last _)
 

@@ -1,6 +1,6 @@
 -- "For each public function, every input has one possible result, state, memory and buffer under its contract, refusals too."
--- The contract is the function's own, as the toolchain has it: `F.ended` is its signature, and `F.Reads.Learnt` what a caller learns of a call of F by
--- its `ensures`.
+-- The contract is the function's own, as the toolchain has it: `F.ended` is its signature and `F.clauses` its clauses, and `told` is what a caller learns of a call of F by its
+-- `ensures`.
 use Rattle.std.specs.Prelude.{◌≡◌}
 use contract.Lifetimes.{Lfts}
 use denote.Triple.Entry.{Args, Res}
