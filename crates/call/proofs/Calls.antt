@@ -22,7 +22,7 @@ use Rattle.fields.specs.Fields.{fields_of, entry_places, entry_at}
 use Rattle.fields.specs.Pages.{is_param_at, param_of}
 use Rattle.fields.proofs.Facts.{kept}
 use Rattle.fields.proofs.PageLaws.{param, param_page}
-use Rattle.state.specs.declared.Found.TheVariants as found
+use Rattle.std.specs.Prelude.{Some, None}
 use Rattle.state.specs.Slots.{entry_found}
 use Rattle.state.specs.declared.Card.{Card}
 use Rattle.state.specs.declared.Slot.{Slot}
@@ -238,12 +238,12 @@ module _ (s : State) (h : state_right s ≡ true) (mark a k : ℕ) (e : k ≡ sl
   entry_below : entry_of (card_at (face_of s) k).fields a < (card_at (face_of s) k).fields.e
   entry_below = ltb-true _ _ (and_r (under_mark (card_at (face_of s) k) mark) _ callable)
 
-  found_at : entry_found (get_or s.slots k no_slot).card a ≡ found.At (entry_for (face_of s) k a)
+  found_at : entry_found (get_or s.slots k no_slot).card a ≡ Some (entry_for (face_of s) k a)
   found_at =
-      subst (λ (x : Card). entry_found x a ≡ found.At (entry_for (face_of s) k a)) (card_at_lem s.slots k)
+      subst (λ (x : Card). entry_found x a ≡ Some (entry_for (face_of s) k a)) (card_at_lem s.slots k)
       (entry_at_lem (card_at (face_of s) k) a (few_entries_at s h k l) entry_below)
 
-  pub found_entry : (y : Entry) → entry_found (get_or s.slots k no_slot).card a ≡ found.At y → Named s a k y
+  pub found_entry : (y : Entry) → entry_found (get_or s.slots k no_slot).card a ≡ Some y → Named s a k y
   found_entry y g =
       let x = card_at (face_of s) k in
       let r = and_l x.registered _ (and_l (under_mark x mark) _ callable) in
@@ -254,5 +254,5 @@ module _ (s : State) (h : state_right s ≡ true) (mark a k : ℕ) (e : k ≡ sl
         is = q;
       }
 
-  pub found_some : entry_found (get_or s.slots k no_slot).card a ≡ found.Nothing → ⊥
+  pub found_some : entry_found (get_or s.slots k no_slot).card a ≡ None → ⊥
   found_some g = let t = sym g ∙ found_at in let z : ◌≡◌ {A = ℕ} 0 1 = cc in omega arith

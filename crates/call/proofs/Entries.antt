@@ -18,7 +18,8 @@ use Rattle.fields.specs.declared.Fields.{Fields}
 use Rattle.fields.specs.Fields.{fields_of, entry_places, entry_at, run_at}
 use Rattle.fields.specs.Pages.{is_param_at, param_of}
 use Rattle.state.specs.declared.Card.{Card}
-use Rattle.state.specs.declared.Found.TheVariants as found
+use Rattle.std.specs.Prelude.{Some, None}
+use Rattle.std.specs.Option.{is_some}
 use Rattle.state.specs.Slots.{begins_at, entry_in, entry_found}
 use Rattle.rules.specs.Tests.{is_entry_at, entry_of}
 
@@ -36,7 +37,7 @@ first_is f n i l before here =
 
 module _ (x : Card) (a : ℕ) (l : x.fields.e ≤ entry_places) where
   -- found
-  pub entry_at_lem : entry_of x.fields a < x.fields.e → entry_found x a ≡ found.At (entry_at x.fields (entry_of x.fields a))
+  pub entry_at_lem : entry_of x.fields a < x.fields.e → entry_found x a ≡ Some (entry_at x.fields (entry_of x.fields a))
   unfolding entry_of entry_found
   entry_at_lem b =
       let f = x.fields in
@@ -48,7 +49,7 @@ module _ (x : Card) (a : ℕ) (l : x.fields.e ≤ entry_places) where
       ap (entry_in f) e ∙ rw (lt-ltb i entry_places (omega arith))
 
   -- not found
-  pub entry_none : x.fields.e ≤ entry_of x.fields a → entry_found x a ≡ found.Nothing
+  pub entry_none : x.fields.e ≤ entry_of x.fields a → entry_found x a ≡ None
   unfolding entry_of entry_found
   entry_none b =
       let f = x.fields in
@@ -62,21 +63,22 @@ module _ (x : Card) (a : ℕ) (l : x.fields.e ≤ entry_places) where
       ap (entry_in f) e
 
   -- what the method says, back
-  pub at_below : (y : Entry) → entry_found x a ≡ found.At y → ltb (entry_of x.fields a) x.fields.e ≡ true
+  pub at_below : (y : Entry) → entry_found x a ≡ Some y → ltb (entry_of x.fields a) x.fields.e ≡ true
   at_below y h =
       ⊎_elim
       (λ (b : entry_of x.fields a < x.fields.e). lt-ltb _ _ b)
       (λ (b : x.fields.e ≤ entry_of x.fields a). let q = sym h ∙ entry_none b in let z : ◌≡◌ {A = ℕ} 0 1 = cc in absurd (omega arith))
       (lt_or_ge (entry_of x.fields a) x.fields.e)
 
-  pub nothing_none : entry_found x a ≡ found.Nothing → ltb (entry_of x.fields a) x.fields.e ≡ false
-  nothing_none h =
+  -- whether it says anything
+  pub some_below : is_some (entry_found x a) ≡ ltb (entry_of x.fields a) x.fields.e
+  some_below =
       ⊎_elim
-      (λ (b : entry_of x.fields a < x.fields.e). let q = sym h ∙ entry_at_lem b in let z : ◌≡◌ {A = ℕ} 0 1 = cc in absurd (omega arith))
-      (λ (b : x.fields.e ≤ entry_of x.fields a). le-ltb _ _ b)
+      (λ (b : entry_of x.fields a < x.fields.e). rw (entry_at_lem b, lt-ltb (entry_of x.fields a) x.fields.e b))
+      (λ (b : x.fields.e ≤ entry_of x.fields a). rw (entry_none b, le-ltb (entry_of x.fields a) x.fields.e b))
       (lt_or_ge (entry_of x.fields a) x.fields.e)
 
-  pub at_entry : (y : Entry) → entry_found x a ≡ found.At y → y ≡ entry_at x.fields (entry_of x.fields a)
+  pub at_entry : (y : Entry) → entry_found x a ≡ Some y → y ≡ entry_at x.fields (entry_of x.fields a)
   at_entry y h = let q = sym h ∙ entry_at_lem (ltb-true _ _ (at_below y h)) in cc
 
 -- the loop for the param page

@@ -14,7 +14,7 @@ use change::{Change, Turn};
 use events::Answer;
 use fields::Entry;
 use geometry::Geometry;
-use state::{Found, State};
+use state::State;
 use touch::pages;
 
 // A range, where it is looked at.
@@ -96,7 +96,7 @@ pub fn call(
     let slot = found.slot;
     let entry = slot.entry_found(address);
     match entry {
-        Found::At(x) => call_entry(s, from, to, memory, found, x, input, output),
-        Found::Nothing => change::kept(Answer::Refused(8)),
+        Some(x) => call_entry(s, from, to, memory, found, x, input, output),
+        None => change::kept(Answer::Refused(8)),
     }
 }

@@ -11,7 +11,7 @@ ghost use Rattle.call.specs.Sought.{sought_in};
 
 use fields::{Fields, Run};
 use geometry::Geometry;
-use state::{Found, Slot, State};
+use state::{Slot, State};
 
 // The slot is registered under the mark, and has an entry at the address.
 fn callable(slot: Slot, mark: u64, address: usize) -> bool
@@ -21,11 +21,7 @@ fn callable(slot: Slot, mark: u64, address: usize) -> bool
     let registered = slot.card.registered;
     let under = slot.card.mark;
     if registered & (under == mark) {
-        let found = slot.entry_found(address);
-        match found {
-            Found::At(_) => return true,
-            Found::Nothing => return false,
-        }
+        return slot.entry_found(address).is_some();
     }
     false
 }

@@ -7,3 +7,4 @@ pub mod Tables
 pub mod Parts
 pub mod Pages
 pub mod Numbers
+pub mod Finds

@@ -1,25 +1,24 @@
 -- What the slot's methods give.
-use Rattle.std.specs.Prelude.{ℕ, Bool, ◌&&◌, List, ◌++◌, get_or, set, ltb, eqb}
+use Rattle.std.specs.Prelude.{ℕ, Bool, ◌&&◌, List, ◌++◌, get_or, set, ltb, eqb, Option, Some, None}
 use Rattle.lists.specs.Below.{pick, first_below}
+use Rattle.fields.specs.declared.Entry.{Entry}
 use Rattle.fields.specs.declared.Fields.{Fields}
 use Rattle.fields.specs.Fields.{entry_places, entry_at}
 use Rattle.sha_1.specs.declared.Digest.{Digest}
 use Rattle.sha_1.specs.Sha1.{sha1}
 use Rattle.state.specs.declared.Card.{Card}
 use Rattle.state.specs.declared.Slot.{Slot}
-use Rattle.state.specs.declared.Found.{Found}
-use Rattle.state.specs.declared.Found.TheVariants.{At, Nothing}
 use Rattle.state.specs.Zero.{no_pcr}
 
 -- entry i is in use and begins at the address
 abbrev pub begins_at : Fields → ℕ → ℕ → Bool
 begins_at f a i = ltb i f.e && eqb (entry_at f i).address a
 
-abbrev pub entry_in : Fields → ℕ → Found
-entry_in f k = pick (ltb k entry_places) (At (entry_at f k)) Nothing
+abbrev pub entry_in : Fields → ℕ → Option Entry
+entry_in f k = pick (ltb k entry_places) (Some (entry_at f k)) None
 
 -- the entry in use that has the address
-unfoldable pub entry_found : Card → ℕ → Found
+unfoldable pub entry_found : Card → ℕ → Option Entry
 entry_found x a = entry_in x.fields (first_below (begins_at x.fields a) entry_places)
 
 -- "µPCR new = SHA-1(old, ..)"

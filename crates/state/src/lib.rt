@@ -1,7 +1,7 @@
 // The monitor's state, by value (document 01, "Machine and numbers").
 #![tactic(auto)]
 
-ghost use Rattle.std.specs.Prelude.{◌≡◌, ◌<◌};
+ghost use Rattle.std.specs.Prelude.{◌≡◌, ◌<◌, ◌==◌, find, take};
 ghost use Rattle.state.specs.Zero.{zero_slot};
 ghost use Rattle.geometry.specs.Geometry.{pcr_count};
 ghost use Rattle.state.specs.Slots.{entry_found, extended_slot};
@@ -51,13 +51,6 @@ pub struct State {
     pub slots: [Slot; Geometry::SLOTS],
     pub mode: Mode,
     pub running: Running,
-}
-
-// The entry that has an address, if one has it.
-#[derive(Clone, Copy)]
-pub enum Found {
-    At(Entry),
-    Nothing,
 }
 
 impl Slot {
@@ -112,19 +105,21 @@ impl Slot {
         t
     }
 
-    pub fn entry_found(self, address: usize) -> Found
+    // The entry in use that has an address, if one has it.
+    pub fn entry_found(self, address: usize) -> Option<Entry>
         ensures { result ≡ entry_found self.card address }
     {
-        let fields = self.card.fields;
-        let mut i: usize = 0;
-        while i < Fields::ENTRIES {
-            let x = fields.entries[i];
-            let used = i < fields.e;
-            if used & (x.address as usize == address) {
-                return Found::At(x);
-            }
-            i += 1;
-        }
-        Found::Nothing
+        first_at(&self.card.fields, address)
     }
+}
+
+fn first_at(fields: &Fields, address: usize) -> Option<Entry>
+    ensures { result ≡ find (λ x. x.address == address) (take fields.now.e fields.now.entries) }
+{
+    fields
+        .entries
+        .iter()
+        .take(fields.e)
+        .copied()
+        .find(|x| x.address as usize == address)
 }

@@ -12,7 +12,7 @@ use Rattle.state.proofs.Shaped.{state_shape}
 use Rattle.state.specs.Face.{face_of}
 use Rattle.state.specs.Zero.{no_slot}
 use Rattle.state.specs.declared.State.{State}
-use Rattle.state.specs.declared.Found.TheVariants as found
+use Rattle.std.specs.Prelude.{Some}
 use Rattle.state.specs.Slots.{entry_found}
 use Rattle.touch.specs.Carried.{IsSlot}
 use Rattle.call.specs.declared.places.Sought.{Sought}
@@ -37,7 +37,7 @@ module _ (s : State) (n mark address : ℕ) (w : well_formed s n ≡ true) (x : 
   same_entry : entry_found (get_or s.slots x.k no_slot).card address ≡ entry_found x.slot.card address
   same_entry = entry_by s x.k x.slot address is_slot
 
-  named : (y : Entry) → entry_found x.slot.card address ≡ found.At y → Named s address x.k y
+  named : (y : Entry) → entry_found x.slot.card address ≡ Some y → Named s address x.k y
   named y g = found_entry s (well_state s n w) mark address x.k number l y (same_entry ∙ g)
 
 pub slot_for-found-requires : goal.slot_for-found-requires
@@ -55,27 +55,27 @@ call_entry-requires c =
     let a = c.args in
     let x = c.slot_for-found.result in
     let l = c.if-found-ge-SLOTS.false in
-    let g = named a.s _ a.mark a.address c.requires.0 x c.slot_for-found.ensures l _ (sym c.entry_found-entry.ensures ∙ c.in-At.is) in
+    let g = named a.s _ a.mark a.address c.requires.0 x c.slot_for-found.ensures l _ (sym c.entry_found-entry.ensures ∙ c.in-Some.is) in
     (c.requires.0, (c.requires.1, ((l, is_slot a.s _ a.mark a.address c.requires.0 x c.slot_for-found.ensures l), (g.registered, g.input))))
 
-pub returns-in-At : goal.returns-in-At
-returns-in-At c = λ payload.
+pub returns-in-Some : goal.returns-in-Some
+returns-in-Some c = λ payload.
     let a = c.args in
     let f = face_of a.s in
     let x = c.slot_for-found.result in
     let l = c.if-found-ge-SLOTS.false in
     let n = number a.s _ a.mark a.address c.requires.0 x c.slot_for-found.ensures l in
-    let g = named a.s _ a.mark a.address c.requires.0 x c.slot_for-found.ensures l _ (sym c.entry_found-entry.ensures ∙ c.in-At.is) in
+    let g = named a.s _ a.mark a.address c.requires.0 x c.slot_for-found.ensures l _ (sym c.entry_found-entry.ensures ∙ c.in-Some.is) in
     to_plan
     (ap (λ (y : Entry). call_entry f x.k y a.input a.output) g.is ∙ ap (λ (j : ℕ). call_entry f j (entry_for f j a.address) a.input a.output) n
     ∙ sym (call_on f a.mark a.address a.input a.output (lt-ltb (slot_for f a.mark a.address) slot_count (omega (arith, l, n)))))
     payload a.s a.memory.now (c.call_entry.ensures payload)
 
-pub returns-in-Nothing : goal.returns-in-Nothing
-returns-in-Nothing c = λ payload.
+pub returns-in-None : goal.returns-in-None
+returns-in-None c = λ payload.
     let a = c.args in
     let x = c.slot_for-found.result in
     let l = c.if-found-ge-SLOTS.false in
     let n = number a.s _ a.mark a.address c.requires.0 x c.slot_for-found.ensures l in
     let t = same_entry a.s _ a.mark a.address c.requires.0 x c.slot_for-found.ensures l in
-    absurd (found_some a.s (well_state a.s _ c.requires.0) a.mark a.address x.k n l (t ∙ sym c.entry_found-entry.ensures ∙ c.in-Nothing.is))
+    absurd (found_some a.s (well_state a.s _ c.requires.0) a.mark a.address x.k n l (t ∙ sym c.entry_found-entry.ensures ∙ c.in-None.is))

@@ -1,16 +1,9 @@
-use Rattle.call.proofs.Entries.{at_below, nothing_none}
-use mathlib.Core.Bool.{◌&&◌}
-use mathlib.Core.Path.{sym, ◌∙◌}
+use mathlib.Core.Path.{ap, ◌∙◌}
+use Rattle.std.specs.Option.{is_some}
+use Rattle.call.proofs.Entries.{some_below}
 use Rattle.call.proofs.places.callable.Goals as goal
 
-pub returns-in-At : goal.returns-in-At
-returns-in-At c =
+pub returns-then-registered-under : goal.returns-then-registered-under
+returns-then-registered-under c =
     let a = c.args in
-    let e = sym c.entry_found-found.ensures ∙ c.in-At.is in
-    sym (λ i. c.if-registered-under.true i && at_below a.slot.card a.address c.requires _ e i)
-
-pub returns-in-Nothing : goal.returns-in-Nothing
-returns-in-Nothing c =
-    let a = c.args in
-    let e = sym c.entry_found-found.ensures ∙ c.in-Nothing.is in
-    sym (λ i. c.if-registered-under.true i && nothing_none a.slot.card a.address c.requires e i)
+    rw c.if-registered-under.true (c.is_some.ensures ∙ ap is_some c.entry_found.ensures ∙ some_below a.slot.card a.address c.requires)
