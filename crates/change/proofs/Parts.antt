@@ -1,13 +1,12 @@
 -- The parts that a turn stores make the state after it.
+use Rattle.std.specs.Prelude.{Some}
 use Prim.Native.Nat.{ℕ, ◌<◌}
 use native.Mathlib.Nat.{not-suc-le-zero}
 use native.Mathlib.Omega.{arith}
-use mathlib.Core.Path.{◌≡◌, refl, sym, ap, ◌∙◌}
+use mathlib.Core.Path.{◌≡◌, refl, sym, ap, subst, ◌∙◌}
 use mathlib.Core.List.{List, map}
 use lib.ListN.{length, get_or, set}
 use Rattle.geometry.specs.Geometry.{slot_count, most_pages}
-use Rattle.sha_1.specs.declared.Digest.{Digest}
-use Rattle.fields.specs.declared.Fields.{Fields}
 use Rattle.fields.specs.Fields.{zero_fields}
 use Rattle.painting.specs.Painting.{RunsFit, painted_runs}
 use Rattle.rules.specs.Tests.{given}
@@ -35,42 +34,39 @@ module _ (o : List ℕ) (long : length o ≡ most_pages) where
       → painted_runs o (get_or l k no_slot).card.fields.runs 0 (get_or l k no_slot).card.fields.r ≡ given o (get_or (map card_of l) k no_card).fields 0
   open_painted l k f = given_painted o (get_or l k no_slot).card.fields 0 long f.fits ∙ ap (λ (y : Card). given o y.fields 0) (sym (card_at_lem l k))
 
-pub by_parts : (s : State) (t : Turn) (x : Fields) (d : Digest) → length s.owner ≡ most_pages → Fits s t x → mode_stored (seat_stored s t x d) (steering t) ≡ changed_by s t x d
-by_parts s Kept x d l f = refl
-by_parts s (Enters y) x d l f = refl
-by_parts s (Leaves y) x d l f = refl
-by_parts s (Frees k) x d l f = ap (λ (o : List ℕ). record { pages = s.pages; kept = s.kept; owner = o; slots = set s.slots k zero_slot; mode = Legacy; running = zero_running }) (open_painted s.owner l s.slots k f.1)
-by_parts s (Extends k i) x d l f = ap (λ (o : List ℕ). record { pages = s.pages; kept = s.kept; owner = o; slots = (with_pcr s k i d).slots; mode = s.mode; running = s.running }) (none_painted s.owner)
-by_parts s (Enrolls k mark) x d l f = ap (λ (o : List ℕ). record { pages = s.pages; kept = s.kept; owner = o; slots = set s.slots k (fresh_slot mark x d); mode = s.mode; running = s.running }) (given_painted s.owner x _ l f.1.fits)
+pub by_parts : (s : State) (t : Turn) → length s.owner ≡ most_pages → Fits s t → mode_stored (seat_stored s t) (steering t) ≡ changed_by s t
+by_parts s Kept l f = refl
+by_parts s (Enters y) l f = refl
+by_parts s (Leaves y) l f = refl
+by_parts s (Frees k) l f = ap (λ (o : List ℕ). record { pages = s.pages; kept = s.kept; owner = o; slots = set s.slots k zero_slot; mode = Legacy; running = zero_running }) (open_painted s.owner l s.slots k f.1)
+by_parts s (Extends k i d) l f = ap (λ (o : List ℕ). record { pages = s.pages; kept = s.kept; owner = o; slots = (with_pcr s k i d).slots; mode = s.mode; running = s.running }) (none_painted s.owner)
+by_parts s (Enrolls k mark x d) l f = ap (λ (o : List ℕ). record { pages = s.pages; kept = s.kept; owner = o; slots = set s.slots k (fresh_slot mark x d); mode = s.mode; running = s.running }) (given_painted s.owner x _ l f.1.fits)
 
 pub no_runs : RunsFit zero_fields.r zero_fields.runs
 no_runs = record { few = omega arith; fits = λ i l. absurd (not-suc-le-zero l) }
 
-pub first_slot : 0 < slot_count
-first_slot = omega arith
-
 -- the slot is there, what is asked of it holds, and the runs' pages are there
 module _ (s : State) where
-  pub place_fits : (t : Turn) (x : Fields) → Fits s t x → (placing t).number < slot_count
-  place_fits Kept x f = first_slot
-  place_fits (Enters y) x f = first_slot
-  place_fits (Leaves y) x f = first_slot
-  place_fits (Frees k) x f = f.0
-  place_fits (Extends k i) x f = f.0
-  place_fits (Enrolls k mark) x f = f.0
+  pub place_fits : (t : Turn) → Fits s t → (k : ℕ) → placing t ≡ Some k → k < slot_count
+  place_fits Kept f k e = cc
+  place_fits (Enters y) f k e = cc
+  place_fits (Leaves y) f k e = cc
+  place_fits (Frees j) f k e = let q : j ≡ k = cc in omega (arith, f.0)
+  place_fits (Extends j i d) f k e = let q : j ≡ k = cc in omega (arith, f.0)
+  place_fits (Enrolls j mark x d) f k e = let q : j ≡ k = cc in omega (arith, f.0)
 
-  pub seats : (t : Turn) (x : Fields) → Fits s t x → Seats t
-  seats Kept x f = tt
-  seats (Enters y) x f = tt
-  seats (Leaves y) x f = tt
-  seats (Frees k) x f = tt
-  seats (Extends k i) x f = f.1
-  seats (Enrolls k mark) x f = f.0
+  pub seats : (t : Turn) → Fits s t → Seats t
+  seats Kept f = tt
+  seats (Enters y) f = tt
+  seats (Leaves y) f = tt
+  seats (Frees k) f = tt
+  seats (Extends k i d) f = f.1
+  seats (Enrolls k mark x d) f = f.0
 
-  pub seat_fits : (t : Turn) (x : Fields) (d : Digest) → Fits s t x → RunsFit (seating (get_or s.slots (placing t).number no_slot) t x d).fields.r (seating (get_or s.slots (placing t).number no_slot) t x d).fields.runs
-  seat_fits Kept x d f = no_runs
-  seat_fits (Enters y) x d f = no_runs
-  seat_fits (Leaves y) x d f = no_runs
-  seat_fits (Frees k) x d f = f.1
-  seat_fits (Extends k i) x d f = no_runs
-  seat_fits (Enrolls k mark) x d f = f.1
+  pub seat_fits : (t : Turn) → Fits s t → (k : ℕ) → placing t ≡ Some k → RunsFit (seating (get_or s.slots k no_slot) t).fields.r (seating (get_or s.slots k no_slot) t).fields.runs
+  seat_fits Kept f k e = no_runs
+  seat_fits (Enters y) f k e = no_runs
+  seat_fits (Leaves y) f k e = no_runs
+  seat_fits (Frees j) f k e = let q : j ≡ k = cc in subst (λ (n : ℕ). RunsFit (get_or s.slots n no_slot).card.fields.r (get_or s.slots n no_slot).card.fields.runs) q f.1
+  seat_fits (Extends j i d) f k e = no_runs
+  seat_fits (Enrolls j mark x d) f k e = f.1

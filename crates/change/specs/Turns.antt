@@ -3,14 +3,13 @@ use Rattle.std.specs.Prelude.{ℕ, ◌+◌, ◌<◌, true, List, get_or, set}
 use Rattle.geometry.specs.Geometry.{slot_count, pcr_count}
 use Rattle.sha_1.specs.declared.Digest.{Digest}
 use Rattle.fields.specs.declared.Fields.{Fields}
-use Rattle.fields.specs.Fields.{zero_fields}
 use Rattle.painting.specs.Painting.{RunsFit}
 use Rattle.state.specs.declared.Mode.{Mode}
 use Rattle.state.specs.declared.Mode.TheVariants.{Legacy, Secure}
 use Rattle.state.specs.declared.Running.{Running}
 use Rattle.state.specs.declared.Slot.{Slot}
 use Rattle.state.specs.declared.State.{State}
-use Rattle.state.specs.Zero.{zero_pcr, zero_slot, no_slot, zero_running}
+use Rattle.state.specs.Zero.{zero_slot, no_slot, zero_running}
 use Rattle.state.specs.Face.{face_of, pcrs_of, card_at}
 use Rattle.state.specs.Slots.{extended_pcrs, extended_slot}
 use Rattle.events.specs.declared.Answer.{Answer}
@@ -49,41 +48,40 @@ abbrev pub enrolled_state : State → ℕ → ℕ → Fields → Digest → Stat
 enrolled_state s k mark x d = seated s k (fresh_slot mark x d) x (k + 1)
 
 -- the state after each turn
-abbrev pub changed_by : State → Turn → Fields → Digest → State
-changed_by s Kept x d = s
-changed_by s (Enters y) x d = in_mode s (Secure y.slot) y
-changed_by s (Leaves y) x d = in_mode s Legacy y
-changed_by s (Frees k) x d = vacated s k
-changed_by s (Extends k i) x d = with_pcr s k i d
-changed_by s (Enrolls k mark) x d = enrolled_state s k mark x d
+abbrev pub changed_by : State → Turn → State
+changed_by s Kept = s
+changed_by s (Enters y) = in_mode s (Secure y.slot) y
+changed_by s (Leaves y) = in_mode s Legacy y
+changed_by s (Frees k) = vacated s k
+changed_by s (Extends k i d) = with_pcr s k i d
+changed_by s (Enrolls k mark x d) = enrolled_state s k mark x d
 
 -- the answer, and the state after the change
 abbrev pub settled : State → Change → Stepped
-settled s c = record { answer = c.answer; state = changed_by s c.turn c.fields c.digest }
+settled s c = record { answer = c.answer; state = changed_by s c.turn }
 
--- a turn that needs neither fields nor a digest
 abbrev pub turn_of : Answer → Turn → Change
-turn_of a t = record { answer = a; turn = t; fields = zero_fields; digest = zero_pcr }
+turn_of a t = record { answer = a; turn = t }
 
 abbrev pub extends_by : ℕ → ℕ → Digest → Change
-extends_by k i d = record { answer = answer.Done; turn = Extends k i; fields = zero_fields; digest = d }
+extends_by k i d = turn_of answer.Done (Extends k i d)
 
 abbrev pub enrolls_by : ℕ → ℕ → Fields → Digest → Change
-enrolls_by k mark x d = record { answer = answer.Slot k; turn = Enrolls k mark; fields = x; digest = d }
+enrolls_by k mark x d = turn_of (answer.Slot k) (Enrolls k mark x d)
 
 -- the slot and the runs that a turn names are there
-abbrev pub Fits : State → Turn → Fields → Type 0
-Fits s Kept x = Unit {0}
-Fits s (Enters y) x = Unit {0}
-Fits s (Leaves y) x = Unit {0}
-Fits s (Frees k) x = (k < slot_count) × RunsFit (get_or s.slots k no_slot).card.fields.r (get_or s.slots k no_slot).card.fields.runs
-Fits s (Extends k i) x = (k < slot_count) × (i < pcr_count)
-Fits s (Enrolls k mark) x = (k < slot_count) × RunsFit x.r x.runs
+abbrev pub Fits : State → Turn → Type 0
+Fits s Kept = Unit {0}
+Fits s (Enters y) = Unit {0}
+Fits s (Leaves y) = Unit {0}
+Fits s (Frees k) = (k < slot_count) × RunsFit (get_or s.slots k no_slot).card.fields.r (get_or s.slots k no_slot).card.fields.runs
+Fits s (Extends k i d) = (k < slot_count) × (i < pcr_count)
+Fits s (Enrolls k mark x d) = (k < slot_count) × RunsFit x.r x.runs
 
 -- it answered as planned and left memory as planned, and the state after the change is as planned
 pub record Settles (p : Plan) (payload : List ℕ) (s : State) (m : List ℕ) (c : Change) (m' : List ℕ) : Type 0 where
   pub steps : Steps p payload (pcrs_of s) m (settled s c) m'
-  pub fits : Fits s c.turn c.fields
+  pub fits : Fits s c.turn
 
 -- whatever the payload
 abbrev pub Acts : Plan → State → List ℕ → Change → List ℕ → Type 0

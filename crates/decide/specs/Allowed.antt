@@ -40,4 +40,4 @@ out_of r m b = record { answer = r.answer; state = r.state; memory = m; buffer =
 -- what a decision comes to: the outcome, with the state after the change; and the change can be made
 pub record Comes (s : State) (c : Change) (m b : List ℕ) (o : Out) : Type 0 where
   pub out : out_of (settled s c) m b ≡ o
-  pub fits : Fits s c.turn c.fields
+  pub fits : Fits s c.turn

@@ -4,22 +4,19 @@ use mathlib.Core.Path.{◌≡◌, refl, sym, ap, subst, ◌∙◌}
 use mathlib.Core.List.{List}
 use lib.ListN.{length, get_or, set}
 use Rattle.geometry.specs.Geometry.{most_pages}
-use Rattle.sha_1.specs.declared.Digest.{Digest}
-use Rattle.fields.specs.declared.Fields.{Fields}
 use Rattle.state.specs.declared.State.{State}
 use Rattle.state.specs.declared.Slot.{Slot}
 use Rattle.state.specs.declared.Running.{Running}
 use Rattle.state.specs.Zero.{no_slot, zero_slot, zero_running}
 use Rattle.state.specs.Slots.{extended_slot}
 use Rattle.events.specs.declared.Event.{Event}
-use Rattle.events.specs.declared.Answer.{Answer}
 use Rattle.rules.specs.Act.{step}
 use Rattle.change.specs.declared.Turn.{Turn}
 use Rattle.change.specs.declared.Turn.TheVariants as turn
 use Rattle.change.specs.declared.Change.{Change}
 use Rattle.change.specs.Turns.{changed_by, fresh_slot, Fits}
 use Rattle.change.proofs.Given.{given_painted}
-use Rattle.change.proofs.Parts.{none_painted, open_painted, place_fits, seats, seat_fits, first_slot, no_runs}
+use Rattle.change.proofs.Parts.{none_painted, open_painted, place_fits, seats, seat_fits, no_runs}
 use Rattle.decide.specs.Allowed as Allowed
 use Rattle.decide.specs.Looks.{looked, seen_in}
 use Rattle.twin.specs.declared.Monitor.{Monitor}
@@ -50,16 +47,13 @@ module _ (m : Monitor) (b : m.mode < 2 ^ 64) (long : length m.owner ≡ most_pag
   abbrev made : List ℕ → List Slot → ℕ → Running → Monitor
   made o l n x = record { pages = m.pages; kept = m.kept; owner = o; slots = l; mode = n; running = x }
 
-  abbrev change : Answer → Turn → Fields → Digest → Change
-  change a t x d = record { answer = a; turn = t; fields = x; digest = d }
-
-  stored_so : (a : Answer) (t : Turn) (x : Fields) (d : Digest) → Fits (opened_of m) t x → stored m (heard_of (change a t x d)) ≡ shut_of (changed_by (opened_of m) t x d)
-  stored_so a turn.Kept x d f = sym (given_back m b)
-  stored_so a (turn.Enters y) x d f = refl
-  stored_so a (turn.Leaves y) x d f = refl
-  stored_so a (turn.Frees k) x d f = ap (λ (o : List ℕ). made o (set m.slots k zero_slot) 0 zero_running) (open_painted m.owner long m.slots k f.1)
-  stored_so a (turn.Extends k i) x d f = λ j. made (none_painted m.owner j) (set m.slots k (extended_slot (get_or m.slots k no_slot) i d)) (same_mode j) m.running
-  stored_so a (turn.Enrolls k mark) x d f = λ j. made (given_painted m.owner x (k + 1) long f.1.fits j) (set m.slots k (fresh_slot mark x d)) (same_mode j) m.running
+  stored_so : (t : Turn) → Fits (opened_of m) t → stored m t ≡ shut_of (changed_by (opened_of m) t)
+  stored_so turn.Kept f = sym (given_back m b)
+  stored_so (turn.Enters y) f = refl
+  stored_so (turn.Leaves y) f = refl
+  stored_so (turn.Frees k) f = ap (λ (o : List ℕ). made o (set m.slots k zero_slot) 0 zero_running) (open_painted m.owner long m.slots k f.1)
+  stored_so (turn.Extends k i d) f = λ j. made (none_painted m.owner j) (set m.slots k (extended_slot (get_or m.slots k no_slot) i d)) (same_mode j) m.running
+  stored_so (turn.Enrolls k mark x d) f = λ j. made (given_painted m.owner x (k + 1) long f.1.fits j) (set m.slots k (fresh_slot mark x d)) (same_mode j) m.running
 
 -- the rules' step of the state that the twin stands for, shown as C sees it
 pub carried : (m : Monitor) (q : Request) (payload memory buffer memory' buffer' : List ℕ) (e : Event) (s : State) (c : Change) (r : Heard)
@@ -69,14 +63,14 @@ carried m q payload memory buffer memory' buffer' e s c r b long ea es comes er 
     let k = subst (λ (x : State). Allowed.Comes x c memory' buffer' (step x memory e payload buffer)) es comes in
     subst (λ (x : Heard). Comes m x memory' buffer' (host_step m q payload memory buffer)) (sym er)
     (record {
-      out = ap (λ (z : Monitor). hosted (heard_of c).reply z memory' buffer') (stored_so m b long c.answer c.turn c.fields c.digest k.fits) ∙ (ap shown k.out ∙ by_asked m q payload memory buffer (Known e) ea);
-      slot_there = place_fits (opened_of m) c.turn c.fields k.fits;
-      seats_so = seats (opened_of m) c.turn c.fields k.fits;
-      runs_fit = seat_fits (opened_of m) c.turn c.fields c.digest k.fits;
+      out = ap (λ (z : Monitor). hosted (heard_of c).reply z memory' buffer') (stored_so m b long c.turn k.fits) ∙ (ap shown k.out ∙ by_asked m q payload memory buffer (Known e) ea);
+      slot_there = place_fits (opened_of m) c.turn k.fits;
+      seats_so = seats (opened_of m) c.turn k.fits;
+      runs_fit = seat_fits (opened_of m) c.turn k.fits;
     })
 
 -- no event
 pub not_carried : (m : Monitor) (q : Request) (payload memory buffer : List ℕ) (r : Heard) → Unknown ≡ asked_of q → r ≡ none_heard → Comes m r memory buffer (host_step m q payload memory buffer)
 not_carried m q payload memory buffer r ea er =
     subst (λ (x : Heard). Comes m x memory buffer (host_step m q payload memory buffer)) (sym er)
-    (record { out = by_asked m q payload memory buffer Unknown ea; slot_there = first_slot; seats_so = tt; runs_fit = no_runs })
+    (record { out = by_asked m q payload memory buffer Unknown ea; slot_there = λ k e. cc; seats_so = tt; runs_fit = λ k e. no_runs })

@@ -1,19 +1,18 @@
 -- What an event gives C: the rules' step, through the twin.
-use Rattle.std.specs.Prelude.{ℕ, ◌<◌, ◌≡◌, false, List, get_or}
-use Rattle.lists.specs.Below.{pick}
+use Rattle.std.specs.Prelude.{ℕ, ◌<◌, ◌≡◌, List, get_or, Option, Some, None}
 use Rattle.geometry.specs.Geometry.{slot_count}
 use Rattle.painting.specs.Painting.{RunsFit}
 use Rattle.state.specs.declared.Mode.{Mode}
-use Rattle.state.specs.Zero.{no_slot, zero_running}
-use Rattle.events.specs.declared.Answer.TheVariants.{Done}
+use Rattle.state.specs.Zero.{no_slot}
 use Rattle.rules.specs.Act.{Out, step}
 use Rattle.wellformed.specs.declared.Sight.{Sight}
 use Rattle.decide.specs.declared.Look.{Look}
 use Rattle.decide.specs.Looks.{at, looking, seen_in}
 use Rattle.change.specs.declared.Change.{Change}
 use Rattle.change.specs.declared.Seat.{Seat}
+use Rattle.change.specs.declared.Steer.{Steer}
+use Rattle.change.specs.declared.Turn.{Turn}
 use Rattle.change.specs.declared.Turn.TheVariants.{Kept}
-use Rattle.change.specs.Turns.{turn_of}
 use Rattle.change.specs.Parts.{steering, placing, seating, Seats, owners_by, slots_by}
 use Rattle.twin.specs.declared.Monitor.{Monitor}
 use Rattle.twin.specs.declared.Request.{Request}
@@ -57,48 +56,37 @@ host_looks q n = look_for (asked_of q) (mode_of n)
 unfoldable pub host_looked : Monitor → Request → Sight
 host_looked m q = seen_in (opened_of m) (host_looks q m.mode)
 
--- the reply to a change, and where it stores
+-- the reply to a change, and its turn
 abbrev pub heard_of : Change → Heard
-heard_of c = record {
-  reply = reply_of c.answer;
-  steers = (steering c.turn).steers;
-  mode = number_of (steering c.turn).mode;
-  running = (steering c.turn).running;
-  seats = (placing c.turn).seats;
-  number = (placing c.turn).number;
-  change = c;
-}
+heard_of c = record { reply = reply_of c.answer; turn = c.turn }
 
 -- no event: nothing is stored
 abbrev pub none_heard : Heard
-none_heard = record {
-  reply = unknown_reply;
-  steers = false;
-  mode = 0;
-  running = zero_running;
-  seats = false;
-  number = 0;
-  change = turn_of Done Kept;
-}
+none_heard = record { reply = unknown_reply; turn = Kept }
 
 -- the state with the mode and the running record stored
-abbrev pub steered : Monitor → Heard → Monitor
-steered m h = pick h.steers (record { pages = m.pages; kept = m.kept; owner = m.owner; slots = m.slots; mode = h.mode; running = h.running }) m
+abbrev pub steered : Monitor → Option Steer → Monitor
+steered m None = m
+steered m (Some x) = record { pages = m.pages; kept = m.kept; owner = m.owner; slots = m.slots; mode = number_of x.mode; running = x.running }
 
--- what the change makes of the slot that it fills
-abbrev pub seat_in : Monitor → Heard → Seat
-seat_in m h = seating (get_or m.slots h.number no_slot) h.change.turn h.change.fields h.change.digest
+-- what the turn makes of slot k
+abbrev pub seat_in : Monitor → Turn → ℕ → Seat
+seat_in m t k = seating (get_or m.slots k no_slot) t
 
 -- and with that slot, and its pages' owner
 abbrev pub filled : Monitor → ℕ → Seat → Monitor
 filled m k x = record { pages = m.pages; kept = m.kept; owner = owners_by x m.owner; slots = slots_by x k m.slots; mode = m.mode; running = m.running }
 
-abbrev pub stored : Monitor → Heard → Monitor
-stored m h = pick h.seats (filled (steered m h) h.number (seat_in (steered m h) h)) (steered m h)
+abbrev pub seated : Monitor → Turn → Option ℕ → Monitor
+seated m t None = m
+seated m t (Some k) = filled m k (seat_in m t k)
+
+abbrev pub stored : Monitor → Turn → Monitor
+stored m t = seated (steered m (steering t)) t (placing t)
 
 -- what an event comes to: the reply, and the state with these parts stored, for which there is room
 pub record Comes (m : Monitor) (h : Heard) (memory buffer : List ℕ) (o : Hosted) : Type 0 where
-  pub out : hosted h.reply (stored m h) memory buffer ≡ o
-  pub slot_there : h.number < slot_count
-  pub seats_so : Seats h.change.turn
-  pub runs_fit : RunsFit (seat_in m h).fields.r (seat_in m h).fields.runs
+  pub out : hosted h.reply (stored m h.turn) memory buffer ≡ o
+  pub slot_there : (k : ℕ) → placing h.turn ≡ Some k → k < slot_count
+  pub seats_so : Seats h.turn
+  pub runs_fit : (k : ℕ) → placing h.turn ≡ Some k → RunsFit (seat_in m h.turn k).fields.r (seat_in m h.turn k).fields.runs

@@ -9,24 +9,18 @@ ghost use Rattle.twin.specs.Twin.{mode_of, opened_of};
 ghost use Rattle.host.specs.Host.{Comes, heard_of, none_heard, hosted, host_step, host_looks, host_looked};
 ghost use Rattle.host.specs.Promise.{RefusalsKeepAll};
 
-use change::Change;
+use change::{Change, Turn};
 use decide::Look;
-use events::Answer;
 use geometry::Geometry;
 use state::{Running, Slot};
 use twin::{Asked, Monitor, Reply, Request};
 use wellformed::{Sight, Test};
 
-// What an event comes to: its reply, and what is stored where the state stands: the mode and the running record; a slot, which the change fills.
+// What an event comes to: its reply, and what becomes of the state.
 #[derive(Clone, Copy)]
 pub struct Heard {
     pub reply: Reply,
-    pub steers: bool,
-    pub mode: usize,
-    pub running: Running,
-    pub seats: bool,
-    pub number: usize,
-    pub change: Change,
+    pub turn: Turn,
 }
 
 // Where the event looks; where none was asked, anywhere.
@@ -87,26 +81,13 @@ fn sees(m: &mut Monitor, n: usize, page: usize, other: usize) -> Sight
     )
 }
 
-// The reply, and where the change stores.
+// A change, told to C.
 fn parts(c: Change) -> Heard
     ensures { result ≡ heard_of c }
 {
-    let answer = c.answer;
-    let turn = c.turn;
-    let reply = twin::replied(answer);
-    let steer = change::steering(turn);
-    let to = steer.mode;
-    let mode = twin::number_of(to);
-    let running = steer.running;
-    let place = change::placing(turn);
     Heard {
-        reply: reply,
-        steers: steer.steers,
-        mode: mode,
-        running: running,
-        seats: place.seats,
-        number: place.number,
-        change: c,
+        reply: twin::replied(c.answer),
+        turn: c.turn,
     }
 }
 
@@ -114,20 +95,9 @@ fn parts(c: Change) -> Heard
 fn unheard() -> Heard
     ensures { result ≡ none_heard }
 {
-    let reply = twin::not_asked();
-    let c = change::kept(Answer::Done);
     Heard {
-        reply: reply,
-        steers: false,
-        mode: 0,
-        running: Running {
-            slot: 0,
-            out: 0,
-            length: 0,
-        },
-        seats: false,
-        number: 0,
-        change: c,
+        reply: twin::not_asked(),
+        turn: Turn::Kept,
     }
 }
 
@@ -167,14 +137,12 @@ pub fn monitor_event(
     let l = looking(q, m.mode);
     let x = sees(m, l.slot, l.page, l.other);
     let h = hear(*m, q, x, payload, memory, buffer);
-    if h.steers {
-        m.mode = h.mode;
-        m.running = h.running;
+    if let Some(steer) = change::steering(h.turn) {
+        m.mode = twin::number_of(steer.mode);
+        m.running = steer.running;
     }
-    if h.seats {
-        let k = h.number;
-        let was = m.slots[k];
-        let seat = change::seating(was, h.change);
+    if let Some(k) = change::placing(h.turn) {
+        let seat = change::seating(m.slots[k], h.turn);
         m.slots[k] = seat.slot;
         painting::paint_runs(&mut m.owner, seat.fields.r, seat.fields.runs, seat.owner);
     }

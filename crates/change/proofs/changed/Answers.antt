@@ -8,4 +8,4 @@ pub returns : goal.returns
 returns c =
     let a = c.args in
     c.mode_stored.ensures ∙ (λ i. mode_stored (c.seat_stored.ensures i) (c.steering.ensures i))
-    ∙ by_parts a.s a.c.turn a.c.fields a.c.digest (state_shape a.s _ c.well_formed.0).owner_long c.requires
+    ∙ by_parts a.s a.c.turn (state_shape a.s _ c.well_formed.0).owner_long c.requires

@@ -9,5 +9,5 @@ pub returns : goal.returns
 unfolding extended_slot
 returns c =
     let a = c.args in
-    let p = ap (λ (x : Slot). x.pcrs) (c.extended-fresh.ensures ∙ ap (λ (x : Slot). extended_slot x 0 a.digest) c.zero-zero.ensures) in
-    λ i. record { slot = record { card = record { registered = true; mark = a.mark; fields = a.fields }; pcrs = p i }; fields = a.fields; owner = a.k + 1 }
+    ap (λ (x : Slot). record { slot = record { card = record { registered = true; mark = a.mark; fields = a.fields }; pcrs = x.pcrs }; fields = a.fields; owner = a.k + 1 })
+    (c.extended.ensures ∙ ap (λ (x : Slot). extended_slot x 0 a.digest) c.zero.ensures)
