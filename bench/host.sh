@@ -12,7 +12,7 @@ trap 'rm -rf "$room"' EXIT
 copied "$room"
 
 # the same code and proofs, and beside the functions for firmware the monitor's step by value
-sed -i 's/^host_c staticlib: /host_c staticlib: monitor /' "$room/crates.txt"
+sed -i 's/^host_c staticlib: /host_c staticlib: events monitor /' "$room/crates.txt"
 cat >>"$room/crates/host_c/src/lib.rt" <<'END'
 
 #[repr(C)]
@@ -30,27 +30,17 @@ pub extern "C" fn stepped(
     memory: &mut [u8],
     buffer: &mut [u8],
 ) -> Outcome {
-    let a = twin::event_asked(q);
-    match a {
-        twin::Asked::Known(e) => {
-            let s = twin::opened(m);
-            let r = monitor::step(e, payload, s, memory, buffer);
-            let answer = r.answer;
-            let state = r.state;
-            let next = twin::shut(state);
-            let reply = twin::replied(answer);
-            Outcome {
-                monitor: next,
-                reply: reply,
-            }
-        }
-        twin::Asked::Unknown => {
-            let reply = twin::not_asked();
-            Outcome {
-                monitor: m,
-                reply: reply,
-            }
-        }
+    let Ok(e) = events::Event::try_from(q) else {
+        let reply = Reply::from(twin::NoEvent);
+        return Outcome {
+            monitor: m,
+            reply,
+        };
+    };
+    let r = monitor::step(e, payload, state::State::from(m), memory, buffer);
+    Outcome {
+        monitor: Monitor::from(r.state),
+        reply: Reply::from(r.answer),
     }
 }
 END

@@ -1,6 +1,7 @@
 """Holds every public function of crates/ to document 01's "No public function lacks a contract on what it returns".
 
-- A function that returns something, or takes a `&mut`, has an `ensures`.
+- A function that returns something, or takes a `&mut`, has an `ensures`. A method of a trait for a type is public too; its `ensures` is the trait's, of which the `impl`
+  says the rest in its ghost members (`from_gives`).
 - A function that has a `requires` stands in docs/PROMISES.md, "What inner functions ask", and every function that stands there has one. An entry point,
   which is any function of the crates ENTRY, refuses bad input and asks nothing.
 - A function of a library that is no promise (`fn laws() ensures ..`) has its theorem of one outcome in the specs of crate unique; where that is of a part of the
@@ -16,7 +17,9 @@ ROOT = pathlib.Path(__file__).resolve().parent.parent
 HEAD = re.compile(r'\bpub\s+(?:extern\s+"C"\s+)?fn\s+(\w+)')
 ENTRY = {"start", "start_c", "monitor", "manifest", "manifest_c", "devicemap", "devicemap_c", "sha_1", "sha1_c", "switch", "wellformed", "wellformed_c", "twin", "host", "host_c", "bench_c"}
 STATIC = set(re.findall(r"^(\w+) staticlib:", (ROOT / "crates.txt").read_text(encoding="utf-8"), re.M))
-IMPL = re.compile(r"^impl\s+(\w+)", re.M)
+IMPL = re.compile(r"^impl\s+(\w+)\s*\{", re.M)
+TRAIT = re.compile(r"^impl\s+(?:\w+::)*(\w+)(?:<([^{]*)>)?\s+for\s+(\w+)\s*\{", re.M)
+METHOD = re.compile(r"\bfn\s+(\w+)")
 
 
 def closing(text, at):
@@ -33,13 +36,20 @@ def closing(text, at):
 def functions(text):
     """Each public function: name, the type that it is a method of, parameters, result, clauses with their texts, body."""
     text = re.sub(r"//[^\n]*", "", text)
-    spans = [(m.start(), closing(text, text.index("{", m.end())), m.group(1)) for m in IMPL.finditer(text)]
-    for m in HEAD.finditer(text):
+    spans = [(m.start(), closing(text, m.end() - 1), m.group(1), []) for m in IMPL.finditer(text)]
+    heads = list(HEAD.finditer(text))
+    for m in TRAIT.finditer(text):  # by the toolchain's name of the `impl`
+        end = closing(text, m.end() - 1)
+        said = [("ensures", clause) for clause in re.findall(r"\bghost\s+\w+\s*=\s*\{(.*?)\};", text[m.end():end], re.S)]
+        spans.append((m.start(), end, m.group(3) + m.group(1) + "".join(re.findall(r"\w+", m.group(2) or "")), said))
+        heads += METHOD.finditer(text, m.end(), end)
+    for m in heads:
         begin = text.index("(", m.end())
         end = closing(text, begin)
         result = re.match(r"\s*->\s*([^{]*?)\s*(?=\brequires\b|\bensures\b|\{)", text[end:])
         at = end + (result.end() if result else 0)
-        clauses = []
+        owner, given = next(((name, said) for a, b, name, said in spans if a < m.start() < b), ("", []))
+        clauses = list(given)
         while True:
             clause = re.match(r"\s*(requires|ensures)\b[^{]*", text[at:])
             if not clause:
@@ -47,7 +57,6 @@ def functions(text):
             upto = closing(text, at + clause.end())
             clauses.append((clause.group(1), " ".join(text[at:upto].split())))
             at = upto
-        owner = next((name for a, b, name in spans if a < m.start() < b), "")
         yield m.group(1), owner, text[begin:end], result.group(1) if result else "", clauses, text[at:closing(text, text.index("{", at))]
 
 

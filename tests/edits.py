@@ -1,7 +1,7 @@
 """Holds every must-fail edit to its purpose.
 
 An edit, crates/CRATE/must-fail/LABEL.edit, holds one wrong answer or several, each under a line `wrong: NAME of FUNCTION, ..` (or of a law, where no
-function is refused for want of it). A function is proved
+function is refused for want of it). A method of a trait for a type is `IMPL::METHOD`, with the name that the toolchain gives the `impl` (`StateFromMonitor::from`). A function is proved
 against the contracts of those that it calls, not against their bodies, so that what is wrong in one body shows in that function's proof alone; what
 is wrong in a definition shows in every function that it names. `rt ci` says of an edit only that it is refused, and one line why. So each is tried here again by `rt check`,
 on copies of the crates outside the repository; what that says is left in target/must-fail/CRATE/LABEL.log. Of it is asked:
@@ -45,6 +45,7 @@ SAID = re.compile(r"^(?:note: )?(?:\./)?(\S+?):(\d+):\d+: (?:error: )?(.*)$")
 DECLARED = re.compile(r"^`([^`]+)`: ")
 FOLLOWS = re.compile(r"declarations? that depends? on `([^`]+)`, which was (?:rejected|not admitted), (?:was|were) not checked: (.*)$")  # the one has its own line
 HEAD = re.compile(r'^\s*(?:#\[[^\]]*\]\s*)*(pub\s+)?(?:extern "C" )?fn (\w+)', re.M)  # with the attributes before it, where a refusal stands
+TRAIT = re.compile(r"^impl\s+(?:\w+::)*(\w+)(?:<([^{]*)>)?\s+for\s+(\w+)\s*\{.*?^\}", re.M | re.S)
 
 
 class Crate:
@@ -55,20 +56,25 @@ class Crate:
         for path in sorted((ROOT / "crates" / name / "src").rglob("*.rt")):
             text = re.sub(r"//[^\n]*", "", path.read_text(encoding="utf-8"))
             heads = list(HEAD.finditer(text))
+            impls = [(m.start(), m.end(), m.group(3) + m.group(1) + "".join(re.findall(r"\w+", m.group(2) or ""))) for m in TRAIT.finditer(text)]
             for head, after in zip(heads, heads[1:] + [None]):
                 end = after.start() if after else len(text)
                 start = head.end() - len(head.group().lstrip())
                 first = text.count("\n", 0, start) + 1
-                self.places[head.group(2)] = (str(path.relative_to(ROOT / "crates" / name)), first, first + text.count("\n", start, end))
-                self.calls[head.group(2)] = set(re.findall(r"\b(\w+)\(", text[head.end():end]))
-                if head.group(1):
-                    self.public.add(head.group(2))
+                owner = next((name for a, b, name in impls if a < start < b), "")
+                function = f"{owner}::{head.group(2)}" if owner else head.group(2)
+                self.places[function] = (str(path.relative_to(ROOT / "crates" / name)), first, first + text.count("\n", start, end))
+                self.calls[function] = set(re.findall(r"\b(\w+)\(", text[head.end():end]))
+                if head.group(1) or owner:
+                    self.public.add(function)
 
     def at(self, place, line):
         """The function whose proof or code stands there, or None."""
         parts = pathlib.PurePath(place).parts
-        if parts and parts[0] == "proofs" and len(parts) > 2 and parts[-2] in self.places:
-            return parts[-2]
+        if parts and parts[0] == "proofs" and len(parts) > 2:
+            for function in ("::".join(parts[-3:-1]), parts[-2]):
+                if function in self.places:
+                    return function
         return next((f for f, (path, first, last) in self.places.items() if path == place and first <= line <= last), None)
 
     def answerable(self, function):

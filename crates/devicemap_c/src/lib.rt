@@ -6,6 +6,7 @@ ghost use Rattle.twin.specs.Asked.{answered};
 ghost use Rattle.devicemap_c.specs.Map.{mapped_reply, host_map};
 
 use devicemap::Mapped;
+use state::State;
 use twin::{Monitor, Reply};
 
 fn mapped(w: Mapped) -> Reply
@@ -29,7 +30,5 @@ fn mapped(w: Mapped) -> Reply
 pub fn monitor_device_map(m: Monitor, buffer: &mut [u8]) -> Reply
     ensures { answered result buffer.new ≡ host_map m buffer.old }
 {
-    let s = twin::opened(m);
-    let w = devicemap::device_map(s, buffer);
-    mapped(w)
+    mapped(devicemap::device_map(State::from(m), buffer))
 }

@@ -3,6 +3,7 @@ use Prim.Native.Nat.{ℕ, ◌+◌, ◌<◌, ◌^◌}
 use mathlib.Core.Path.{◌≡◌, refl, sym, ap, subst, ◌∙◌}
 use mathlib.Core.List.{List}
 use lib.ListN.{length, get_or, set}
+use Rattle.std.specs.Prelude.{Ok, Err}
 use Rattle.geometry.specs.Geometry.{most_pages}
 use Rattle.state.specs.declared.State.{State}
 use Rattle.state.specs.declared.Slot.{Slot}
@@ -21,10 +22,9 @@ use Rattle.decide.specs.Allowed as Allowed
 use Rattle.decide.specs.Looks.{looked, seen_in}
 use Rattle.twin.specs.declared.Monitor.{Monitor}
 use Rattle.twin.specs.declared.Request.{Request}
-use Rattle.twin.specs.declared.Asked.{Asked}
-use Rattle.twin.specs.declared.Asked.TheVariants.{Known, Unknown}
+use Rattle.twin.specs.declared.NoEvent.{NoEvent}
 use Rattle.twin.specs.Twin.{mode_of, number_of, opened_of, shut_of}
-use Rattle.twin.specs.Asked.{asked_of}
+use Rattle.twin.specs.Asked.{Asked, asked_of}
 use Rattle.twin.proofs.Laws.{given_back}
 use Rattle.host.specs.declared.Heard.{Heard}
 use Rattle.host.specs.Host.{Comes, heard_of, none_heard, stored, hosted, shown, host_asked, host_step, look_for, host_looked}
@@ -34,7 +34,7 @@ unfolding host_step
 by_asked m q payload memory buffer a e = ap (λ (x : Asked). host_asked x m payload memory buffer) e
 
 -- what the event sees, of the state that the twin stands for
-module _ (m : Monitor) (q : Request) (e : Event) (s : State) (ea : Known e ≡ asked_of q) (es : s ≡ opened_of m) where
+module _ (m : Monitor) (q : Request) (e : Event) (s : State) (ea : Ok e ≡ asked_of q) (es : s ≡ opened_of m) where
   pub looked_so : looked e s ≡ host_looked m q
   unfolding host_looked looked
   looked_so = ap (looked e) es ∙ ap (λ (a : Asked). seen_in (opened_of m) (look_for a (mode_of m.mode))) ea
@@ -57,20 +57,20 @@ module _ (m : Monitor) (b : m.mode < 2 ^ 64) (long : length m.owner ≡ most_pag
 
 -- the rules' step of the state that the twin stands for, shown as C sees it
 pub carried : (m : Monitor) (q : Request) (payload memory buffer memory' buffer' : List ℕ) (e : Event) (s : State) (c : Change) (r : Heard)
-    → m.mode < 2 ^ 64 → length m.owner ≡ most_pages → Known e ≡ asked_of q → s ≡ opened_of m → Allowed.Comes s c memory' buffer' (step s memory e payload buffer) → r ≡ heard_of c
+    → m.mode < 2 ^ 64 → length m.owner ≡ most_pages → Ok e ≡ asked_of q → s ≡ opened_of m → Allowed.Comes s c memory' buffer' (step s memory e payload buffer) → r ≡ heard_of c
     → Comes m r memory' buffer' (host_step m q payload memory buffer)
 carried m q payload memory buffer memory' buffer' e s c r b long ea es comes er =
     let k = subst (λ (x : State). Allowed.Comes x c memory' buffer' (step x memory e payload buffer)) es comes in
     subst (λ (x : Heard). Comes m x memory' buffer' (host_step m q payload memory buffer)) (sym er)
     (record {
-      out = ap (λ (z : Monitor). hosted (heard_of c).reply z memory' buffer') (stored_so m b long c.turn k.fits) ∙ (ap shown k.out ∙ by_asked m q payload memory buffer (Known e) ea);
+      out = ap (λ (z : Monitor). hosted (heard_of c).reply z memory' buffer') (stored_so m b long c.turn k.fits) ∙ (ap shown k.out ∙ by_asked m q payload memory buffer (Ok e) ea);
       slot_there = place_fits (opened_of m) c.turn k.fits;
       seats_so = seats (opened_of m) c.turn k.fits;
       runs_fit = seat_fits (opened_of m) c.turn k.fits;
     })
 
 -- no event
-pub not_carried : (m : Monitor) (q : Request) (payload memory buffer : List ℕ) (r : Heard) → Unknown ≡ asked_of q → r ≡ none_heard → Comes m r memory buffer (host_step m q payload memory buffer)
-not_carried m q payload memory buffer r ea er =
+pub not_carried : (m : Monitor) (q : Request) (payload memory buffer : List ℕ) (none : NoEvent) (r : Heard) → Err none ≡ asked_of q → r ≡ none_heard → Comes m r memory buffer (host_step m q payload memory buffer)
+not_carried m q payload memory buffer none r ea er =
     subst (λ (x : Heard). Comes m x memory buffer (host_step m q payload memory buffer)) (sym er)
-    (record { out = by_asked m q payload memory buffer Unknown ea; slot_there = λ k e. cc; seats_so = tt; runs_fit = λ k e. no_runs })
+    (record { out = by_asked m q payload memory buffer (Err none) ea; slot_there = λ k e. cc; seats_so = tt; runs_fit = λ k e. no_runs })

@@ -4,15 +4,14 @@ use mathlib.Core.Path.{◌≡◌, refl, ap, ◌∙◌}
 use mathlib.Core.Logic.{◌≢◌}
 use mathlib.Core.List.{List}
 use lib.ListN.{length}
+use Rattle.std.specs.Prelude.{Ok, Err}
 use Rattle.geometry.specs.Geometry.{slot_count}
 use Rattle.rules.specs.Act.{Out, step}
 use Rattle.kept.specs.Refusals.{AsGiven}
 use Rattle.kept.proofs.Refused.{refusals_keep}
 use Rattle.twin.specs.declared.Monitor.{Monitor}
-use Rattle.twin.specs.declared.Asked.{Asked}
-use Rattle.twin.specs.declared.Asked.TheVariants.{Known, Unknown}
 use Rattle.twin.specs.Twin.{opened_of, shut_of}
-use Rattle.twin.specs.Asked.{asked_of, reply_of}
+use Rattle.twin.specs.Asked.{Asked, asked_of, reply_of}
 use Rattle.twin.proofs.Laws.{given_back, number_told}
 use Rattle.host.specs.Host.{hosted, shown, host_asked, host_step}
 use Rattle.host.specs.Promise.{RefusalsKeepAll}
@@ -22,8 +21,8 @@ back m memory buffer o b k = λ i. record { reply = reply_of o.answer; monitor =
 
 kept_asked : (a : Asked) (m : Monitor) (payload memory buffer : List ℕ) → m.mode < 2 ^ 64 → length m.slots ≡ slot_count → (host_asked a m payload memory buffer).reply.number ≢ 0
     → host_asked a m payload memory buffer ≡ hosted (host_asked a m payload memory buffer).reply m memory buffer
-kept_asked Unknown m payload memory buffer b l n = refl
-kept_asked (Known e) m payload memory buffer b l n =
+kept_asked (Err none) m payload memory buffer b l n = refl
+kept_asked (Ok e) m payload memory buffer b l n =
     back m memory buffer (step (opened_of m) memory e payload buffer) b
     (refusals_keep (opened_of m) memory e payload buffer l (λ z. n (number_told (step (opened_of m) memory e payload buffer).answer ∙ z)))
 

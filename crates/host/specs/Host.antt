@@ -1,5 +1,5 @@
 -- What an event gives C: the rules' step, through the twin.
-use Rattle.std.specs.Prelude.{ℕ, ◌<◌, ◌≡◌, List, get_or, Option, Some, None}
+use Rattle.std.specs.Prelude.{ℕ, ◌<◌, ◌≡◌, List, get_or, Option, Some, None, Ok, Err}
 use Rattle.geometry.specs.Geometry.{slot_count}
 use Rattle.painting.specs.Painting.{RunsFit}
 use Rattle.state.specs.declared.Mode.{Mode}
@@ -17,10 +17,8 @@ use Rattle.change.specs.Parts.{steering, placing, seating, Seats, owners_by, slo
 use Rattle.twin.specs.declared.Monitor.{Monitor}
 use Rattle.twin.specs.declared.Request.{Request}
 use Rattle.twin.specs.declared.Reply.{Reply}
-use Rattle.twin.specs.declared.Asked.{Asked}
-use Rattle.twin.specs.declared.Asked.TheVariants.{Known, Unknown}
 use Rattle.twin.specs.Twin.{mode_of, number_of, opened_of, shut_of}
-use Rattle.twin.specs.Asked.{asked_of, reply_of, unknown_reply}
+use Rattle.twin.specs.Asked.{Asked, asked_of, reply_of, unknown_reply}
 use Rattle.host.specs.declared.Heard.{Heard}
 
 -- a reply, and what stands in the state, in memory and in the buffer after it
@@ -39,16 +37,16 @@ shown o = hosted (reply_of o.answer) (shut_of o.state) o.memory o.buffer
 
 -- the event that was asked, done; where none was, a number of its own, and nothing is changed
 abbrev pub host_asked : Asked → Monitor → List ℕ → List ℕ → List ℕ → Hosted
-host_asked (Known e) m payload memory buffer = shown (step (opened_of m) memory e payload buffer)
-host_asked Unknown m payload memory buffer = hosted unknown_reply m memory buffer
+host_asked (Ok e) m payload memory buffer = shown (step (opened_of m) memory e payload buffer)
+host_asked (Err none) m payload memory buffer = hosted unknown_reply m memory buffer
 
 unfoldable pub host_step : Monitor → Request → List ℕ → List ℕ → List ℕ → Hosted
 host_step m q payload memory buffer = host_asked (asked_of q) m payload memory buffer
 
 -- where the event that was asked looks, and what it sees there
 abbrev pub look_for : Asked → Mode → Look
-look_for (Known e) m = looking e m
-look_for Unknown m = at 0 0
+look_for (Ok e) m = looking e m
+look_for (Err none) m = at 0 0
 
 abbrev pub host_looks : Request → ℕ → Look
 host_looks q n = look_for (asked_of q) (mode_of n)

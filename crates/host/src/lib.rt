@@ -11,9 +11,10 @@ ghost use Rattle.host.specs.Promise.{RefusalsKeepAll};
 
 use change::{Change, Turn};
 use decide::Look;
+use events::Event;
 use geometry::Geometry;
-use state::{Running, Slot};
-use twin::{Asked, Monitor, Reply, Request};
+use state::{Running, Slot, State};
+use twin::{Monitor, NoEvent, Reply, Request};
 use wellformed::{Sight, Test};
 
 // What an event comes to: its reply, and what becomes of the state.
@@ -27,17 +28,14 @@ pub struct Heard {
 fn looking(q: Request, mode: usize) -> Look
     ensures { result ≡ host_looks q mode }
 {
-    let a = twin::event_asked(q);
-    match a {
-        Asked::Known(e) => decide::looking(e, twin::mode_of(mode)),
-        Asked::Unknown => {
-            Look {
-                slot: 0,
-                page: 0,
-                other: 0,
-            }
-        }
-    }
+    let Ok(e) = Event::try_from(q) else {
+        return Look {
+            slot: 0,
+            page: 0,
+            other: 0,
+        };
+    };
+    decide::looking(e, twin::mode_of(mode))
 }
 
 // The end of the test, of C's mode.
@@ -86,7 +84,7 @@ fn parts(c: Change) -> Heard
     ensures { result ≡ heard_of c }
 {
     Heard {
-        reply: twin::replied(c.answer),
+        reply: Reply::from(c.answer),
         turn: c.turn,
     }
 }
@@ -96,7 +94,7 @@ fn unheard() -> Heard
     ensures { result ≡ none_heard }
 {
     Heard {
-        reply: twin::not_asked(),
+        reply: Reply::from(NoEvent),
         turn: Turn::Kept,
     }
 }
@@ -113,15 +111,10 @@ fn hear(
     requires { x ≡ host_looked m q }
     ensures { Comes m result memory.new buffer.new (host_step m q payload.now memory.old buffer.old) }
 {
-    let a = twin::event_asked(q);
-    match a {
-        Asked::Known(e) => {
-            let s = twin::opened(m);
-            let c = decide::decided(e, x, payload, s, memory, buffer);
-            parts(c)
-        }
-        Asked::Unknown => unheard(),
-    }
+    let Ok(e) = Event::try_from(q) else {
+        return unheard();
+    };
+    parts(decide::decided(e, x, payload, State::from(m), memory, buffer))
 }
 
 // One event, on the lent state: each part that the event changes is stored where it stands.

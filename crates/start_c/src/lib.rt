@@ -18,9 +18,10 @@ fn started(pages: usize, kept: usize) -> Begun
 {
     let s = start::start(pages, kept);
     let number = s.refusal;
-    let t = s.state;
-    let m = twin::shut(t);
-    Begun { monitor: m, number }
+    Begun {
+        monitor: Monitor::from(s.state),
+        number,
+    }
 }
 
 // Start: the fresh state, or 4 and the all-zero state.

@@ -1,38 +1,46 @@
 -- The event that a request names, and the reply that an answer becomes.
-use Rattle.std.specs.Prelude.{ℕ, List, eqb}
+use Rattle.std.specs.Prelude.{ℕ, List, eqb, Result, Ok, Err}
 use Rattle.lists.specs.Below.{pick}
 use Rattle.memory.specs.declared.Source.{Source}
 use Rattle.memory.specs.declared.Source.TheVariants.{Payload, Memory}
+use Rattle.events.specs.declared.Event.{Event}
 use Rattle.events.specs.declared.Event.TheVariants.{Register, Unregister, Call, Return, Jump, Read, Write, DeviceRead, DeviceWrite, Extend, PcrRead}
 use Rattle.events.specs.declared.Answer.{Answer}
 use Rattle.events.specs.declared.Answer.TheVariants as answer
 use Rattle.twin.specs.declared.Request.{Request}
 use Rattle.twin.specs.declared.Reply.{Reply}
-use Rattle.twin.specs.declared.Asked.{Asked}
-use Rattle.twin.specs.declared.Asked.TheVariants.{Known, Unknown}
+use Rattle.twin.specs.declared.NoEvent.{NoEvent}
 
-abbrev pub extend_by : Request → Source → Asked
-extend_by q from = Known (Extend q.index from q.address q.length)
+-- an event, or that there is none
+abbrev pub Asked : Type 0
+Asked = Result Event NoEvent
+
+abbrev pub no_event : {A : Type 0} → Result A NoEvent
+no_event = Err (record {})
 
 -- an extend's source: 1 payload, 2 memory
-unfoldable pub extend_as : ℕ → Request → Asked
-extend_as s q = pick (eqb s 1) (extend_by q Payload) (pick (eqb s 2) (extend_by q Memory) Unknown)
+unfoldable pub source_of : ℕ → Result Source NoEvent
+source_of s = pick (eqb s 1) (Ok Payload) (pick (eqb s 2) (Ok Memory) no_event)
+
+abbrev pub extend_by : Request → Result Source NoEvent → Asked
+extend_by q (Ok from) = Ok (Extend q.index from q.address q.length)
+extend_by q (Err none) = Err none
 
 -- the kinds, in document 01's order
 unfoldable pub asked_as : ℕ → Request → Asked
 asked_as k q =
-    pick (eqb k 1) (Known (Register q.mark))
-    (pick (eqb k 2) (Known (Unregister q.mark q.slot))
-    (pick (eqb k 3) (Known (Call q.mark q.address q.input q.output))
-    (pick (eqb k 4) (Known Return)
-    (pick (eqb k 5) (Known (Jump q.address))
-    (pick (eqb k 6) (Known (Read q.address q.length))
-    (pick (eqb k 7) (Known (Write q.address))
-    (pick (eqb k 8) (Known (DeviceRead q.address q.length))
-    (pick (eqb k 9) (Known (DeviceWrite q.address))
-    (pick (eqb k 10) (extend_as q.source q)
-    (pick (eqb k 11) (Known (PcrRead q.index))
-    Unknown))))))))))
+    pick (eqb k 1) (Ok (Register q.mark))
+    (pick (eqb k 2) (Ok (Unregister q.mark q.slot))
+    (pick (eqb k 3) (Ok (Call q.mark q.address q.input q.output))
+    (pick (eqb k 4) (Ok Return)
+    (pick (eqb k 5) (Ok (Jump q.address))
+    (pick (eqb k 6) (Ok (Read q.address q.length))
+    (pick (eqb k 7) (Ok (Write q.address))
+    (pick (eqb k 8) (Ok (DeviceRead q.address q.length))
+    (pick (eqb k 9) (Ok (DeviceWrite q.address))
+    (pick (eqb k 10) (extend_by q (source_of q.source))
+    (pick (eqb k 11) (Ok (PcrRead q.index))
+    no_event))))))))))
 
 abbrev pub asked_of : Request → Asked
 asked_of q = asked_as q.kind q

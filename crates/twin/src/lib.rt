@@ -3,7 +3,7 @@
 
 ghost use Rattle.std.specs.Prelude.{◌≡◌};
 ghost use Rattle.twin.specs.Twin.{mode_of, number_of, opened_of, shut_of};
-ghost use Rattle.twin.specs.Asked.{extend_by, extend_as, asked_of, reply as replyWith, reply_of, unknown_reply};
+ghost use Rattle.twin.specs.Asked.{source_of, asked_of, reply_of, unknown_reply};
 ghost use Rattle.twin.specs.Promise.{AsGiven, Told, Answered};
 
 use events::{Answer, Event};
@@ -47,159 +47,150 @@ pub struct Reply {
     pub value: usize,
 }
 
-// A request that names an event, or none.
-#[derive(Clone, Copy)]
-pub enum Asked {
-    Known(Event),
-    Unknown,
-}
+// What a request is that names no event: its kind, or its source, is none.
+#[derive(Clone, Copy, Debug, PartialEq, Eq)]
+pub struct NoEvent;
 
-pub fn mode_of(m: usize) -> Mode
-    ensures { result ≡ mode_of m }
+// The mode of a number of C's. No `From`: neither a number nor a mode is of this crate, and the number is C's alone.
+pub fn mode_of(n: usize) -> Mode
+    ensures { result ≡ mode_of n }
 {
-    if m == 0 {
-        Mode::Legacy
-    } else {
-        Mode::Secure(m - 1)
-    }
+    n.checked_sub(1).map_or(Mode::Legacy, Mode::Secure)
 }
 
-// A mode's number.
+// A mode's number. The greatest slot has no successor, and no mode of C's has it.
 pub fn number_of(m: Mode) -> usize
     ensures { result ≡ number_of m }
 {
     match m {
         Mode::Legacy => 0,
-        Mode::Secure(k) => { if k == 18446744073709551615 { 0 } else { k + 1 } }
+        Mode::Secure(k) => k.checked_add(1).unwrap_or(0),
     }
 }
 
-pub fn opened(m: Monitor) -> State
-    ensures { result ≡ opened_of m }
-{
-    let owner = m.owner;
-    let slots = m.slots;
-    let running = m.running;
-    let mode = mode_of(m.mode);
-    State {
-        pages: m.pages,
-        kept: m.kept,
-        owner: owner,
-        slots: slots,
-        mode: mode,
-        running: running,
+impl From<Monitor> for State {
+    ghost from_gives = { λ m s. s ≡ opened_of m };
+
+    fn from(m: Monitor) -> State {
+        let owner = m.owner;
+        let slots = m.slots;
+        State {
+            pages: m.pages,
+            kept: m.kept,
+            owner,
+            slots,
+            mode: mode_of(m.mode),
+            running: m.running,
+        }
     }
 }
 
-pub fn shut(s: State) -> Monitor
-    ensures { result ≡ shut_of s }
-{
-    let owner = s.owner;
-    let slots = s.slots;
-    let running = s.running;
-    let m = s.mode;
-    let mode = number_of(m);
-    Monitor {
-        pages: s.pages,
-        kept: s.kept,
-        owner: owner,
-        slots: slots,
-        mode: mode,
-        running: running,
+impl From<State> for Monitor {
+    ghost from_gives = { λ s m. m ≡ shut_of s };
+
+    fn from(s: State) -> Monitor {
+        let owner = s.owner;
+        let slots = s.slots;
+        Monitor {
+            pages: s.pages,
+            kept: s.kept,
+            owner,
+            slots,
+            mode: number_of(s.mode),
+            running: s.running,
+        }
     }
 }
 
-fn extend_of(q: Request, source: Source) -> Asked
-    ensures { result ≡ extend_by q source }
+// An extend's source: 1 payload, 2 memory.
+#[tactic(auto, unfolding(crate::specs::Asked::source_of))]
+fn source_of(n: usize) -> Result<Source, NoEvent>
+    ensures { result ≡ source_of n }
 {
-    Asked::Known(Event::Extend {
-        index: q.index,
-        source,
-        address: q.address,
-        length: q.length,
-    })
-}
-
-// An extend, by its source.
-#[tactic(auto, unfolding(crate::specs::Asked::extend_as))]
-fn extend_asked(q: Request) -> Asked
-    ensures { result ≡ extend_as q.source q }
-{
-    let source = q.source;
-    match source {
-        1 => extend_of(q, Source::Payload),
-        2 => extend_of(q, Source::Memory),
-        _ => Asked::Unknown,
+    match n {
+        1 => Ok(Source::Payload),
+        2 => Ok(Source::Memory),
+        _ => Err(NoEvent),
     }
 }
 
 // The event that a request names.
-#[tactic(auto, unfolding(crate::specs::Asked::asked_as))]
-pub fn event_asked(q: Request) -> Asked
-    ensures { result ≡ asked_of q }
-{
-    let kind = q.kind;
-    match kind {
-        1 => Asked::Known(Event::Register { mark: q.mark }),
-        2 => Asked::Known(Event::Unregister {
-            mark: q.mark,
-            slot: q.slot,
-        }),
-        3 => {
-            Asked::Known(Event::Call {
+impl TryFrom<Request> for Event {
+    type Error = NoEvent;
+
+    ghost try_from_gives = { λ q r. r ≡ asked_of q };
+
+    #[tactic(auto, unfolding(crate::specs::Asked::asked_as))]
+    fn try_from(q: Request) -> Result<Event, NoEvent> {
+        let event = match q.kind {
+            1 => Event::Register { mark: q.mark },
+            2 => Event::Unregister {
+                mark: q.mark,
+                slot: q.slot,
+            },
+            3 => Event::Call {
                 mark: q.mark,
                 address: q.address,
                 input: q.input,
                 output: q.output,
-            })
+            },
+            4 => Event::Return,
+            5 => Event::Jump { address: q.address },
+            6 => Event::Read {
+                address: q.address,
+                length: q.length,
+            },
+            7 => Event::Write { address: q.address },
+            8 => Event::DeviceRead {
+                address: q.address,
+                length: q.length,
+            },
+            9 => Event::DeviceWrite { address: q.address },
+            10 => Event::Extend {
+                index: q.index,
+                source: source_of(q.source)?,
+                address: q.address,
+                length: q.length,
+            },
+            11 => Event::PcrRead { index: q.index },
+            _ => return Err(NoEvent),
+        };
+        Ok(event)
+    }
+}
+
+impl From<Answer> for Reply {
+    ghost from_gives = { λ a r. r ≡ reply_of a };
+
+    fn from(a: Answer) -> Reply {
+        let (number, kind, value) = match a {
+            Answer::Refused(n) => (n, 0, 0),
+            Answer::Done => (0, 1, 0),
+            Answer::Slot(k) => (0, 2, k),
+            Answer::Entered(k) => (0, 3, k),
+            Answer::Left(n) => (0, 4, n),
+            Answer::Terminated(k) => (0, 5, k),
+            Answer::Filled(n) => (0, 6, n),
+        };
+        Reply {
+            number,
+            kind,
+            value,
         }
-        4 => Asked::Known(Event::Return),
-        5 => Asked::Known(Event::Jump { address: q.address }),
-        6 => Asked::Known(Event::Read {
-            address: q.address,
-            length: q.length,
-        }),
-        7 => Asked::Known(Event::Write { address: q.address }),
-        8 => Asked::Known(Event::DeviceRead {
-            address: q.address,
-            length: q.length,
-        }),
-        9 => Asked::Known(Event::DeviceWrite { address: q.address }),
-        10 => extend_asked(q),
-        11 => Asked::Known(Event::PcrRead { index: q.index }),
-        _ => Asked::Unknown,
-    }
-}
-
-fn reply_of(number: u8, kind: u8, value: usize) -> Reply
-    ensures { result ≡ replyWith number kind value }
-{
-    Reply {
-        number,
-        kind,
-        value,
-    }
-}
-
-pub fn replied(a: Answer) -> Reply
-    ensures { result ≡ reply_of a }
-{
-    match a {
-        Answer::Refused(n) => reply_of(n, 0, 0),
-        Answer::Done => reply_of(0, 1, 0),
-        Answer::Slot(k) => reply_of(0, 2, k),
-        Answer::Entered(k) => reply_of(0, 3, k),
-        Answer::Left(n) => reply_of(0, 4, n),
-        Answer::Terminated(k) => reply_of(0, 5, k),
-        Answer::Filled(n) => reply_of(0, 6, n),
     }
 }
 
 // What is answered where no event was asked.
-pub fn not_asked() -> Reply
-    ensures { result ≡ unknown_reply }
-{
-    reply_of(255, 0, 0)
+impl From<NoEvent> for Reply {
+    ghost from_gives = { λ _ r. r ≡ unknown_reply };
+
+    fn from(_: NoEvent) -> Reply {
+        Reply {
+            number: 255,
+            kind: 0,
+            value: 0,
+        }
+    }
 }
 
 // A state that is read and written back as it was is the one that C handed over.

@@ -1,11 +1,11 @@
 -- One outcome for each input: the functions for C.
 use Rattle.twin.specs.contracts.mode_of as twin_mode_of
 use Rattle.twin.specs.contracts.number_of as twin_number_of
-use Rattle.twin.specs.contracts.opened as twin_opened
-use Rattle.twin.specs.contracts.shut as twin_shut
-use Rattle.twin.specs.contracts.event_asked as twin_event_asked
-use Rattle.twin.specs.contracts.replied as twin_replied
-use Rattle.twin.specs.contracts.not_asked as twin_not_asked
+use Rattle.twin.specs.contracts.StateFromMonitor.from as twin_state_from_monitor
+use Rattle.twin.specs.contracts.MonitorFromState.from as twin_monitor_from_state
+use Rattle.twin.specs.contracts.EventTryFromRequest.try_from as twin_event_from_request
+use Rattle.twin.specs.contracts.ReplyFromAnswer.from as twin_reply_from_answer
+use Rattle.twin.specs.contracts.ReplyFromNoEvent.from as twin_reply_from_none
 use Rattle.start_c.specs.contracts.monitor_start as start_c_monitor_start
 use Rattle.host.specs.contracts.monitor_event as host_monitor_event
 use Rattle.manifest_c.specs.contracts.monitor_manifest_read as manifest_c_monitor_manifest_read
@@ -27,11 +27,11 @@ host_monitor_event_says κs a z e = told ((host_monitor_event.clauses w₀.𝓛 
 pub record Board : Type 0 where
   pub twin_mode_of_one : OneOutcome twin_mode_of.ended (λ κs a z e. told ((twin_mode_of.clauses w₀.𝓛 w₀.𝓜.mem w₀.𝓡.run κs a).ensures tt z e) (r_last _))
   pub twin_number_of_one : OneOutcome twin_number_of.ended (λ κs a z e. told ((twin_number_of.clauses w₀.𝓛 w₀.𝓜.mem w₀.𝓡.run κs a).ensures tt z e) (r_last _))
-  pub twin_opened_one : OneOutcome twin_opened.ended (λ κs a z e. told ((twin_opened.clauses w₀.𝓛 w₀.𝓜.mem w₀.𝓡.run κs a).ensures tt z e) (r_last _))
-  pub twin_shut_one : OneOutcome twin_shut.ended (λ κs a z e. told ((twin_shut.clauses w₀.𝓛 w₀.𝓜.mem w₀.𝓡.run κs a).ensures tt z e) (r_last _))
-  pub twin_event_asked_one : OneOutcome twin_event_asked.ended (λ κs a z e. told ((twin_event_asked.clauses w₀.𝓛 w₀.𝓜.mem w₀.𝓡.run κs a).ensures tt z e) (r_last _))
-  pub twin_replied_one : OneOutcome twin_replied.ended (λ κs a z e. told ((twin_replied.clauses w₀.𝓛 w₀.𝓜.mem w₀.𝓡.run κs a).ensures tt z e) (r_last _))
-  pub twin_not_asked_one : OneOutcome twin_not_asked.ended (λ κs a z e. told ((twin_not_asked.clauses w₀.𝓛 w₀.𝓜.mem w₀.𝓡.run κs a).ensures tt z e) (r_last _))
+  pub twin_state_from_monitor_one : OneOutcome twin_state_from_monitor.ended (λ κs a z e. told ((twin_state_from_monitor.clauses w₀.𝓛 w₀.𝓜.mem w₀.𝓡.run κs a).ensures tt z e) (r_last _))
+  pub twin_monitor_from_state_one : OneOutcome twin_monitor_from_state.ended (λ κs a z e. told ((twin_monitor_from_state.clauses w₀.𝓛 w₀.𝓜.mem w₀.𝓡.run κs a).ensures tt z e) (r_last _))
+  pub twin_event_from_request_one : OneOutcome twin_event_from_request.ended (λ κs a z e. told ((twin_event_from_request.clauses w₀.𝓛 w₀.𝓜.mem w₀.𝓡.run κs a).ensures tt z e) (r_last _))
+  pub twin_reply_from_answer_one : OneOutcome twin_reply_from_answer.ended (λ κs a z e. told ((twin_reply_from_answer.clauses w₀.𝓛 w₀.𝓜.mem w₀.𝓡.run κs a).ensures tt z e) (r_last _))
+  pub twin_reply_from_none_one : OneOutcome twin_reply_from_none.ended (λ κs a z e. told ((twin_reply_from_none.clauses w₀.𝓛 w₀.𝓜.mem w₀.𝓡.run κs a).ensures tt z e) (r_last _))
   pub start_c_monitor_start_one : OneOutcome start_c_monitor_start.ended start_c_monitor_start_says
   pub host_monitor_event_one : OneOutcome host_monitor_event.ended host_monitor_event_says
   pub manifest_c_monitor_manifest_read_one : OneOutcome manifest_c_monitor_manifest_read.ended (λ κs a z e. told ((manifest_c_monitor_manifest_read.clauses w₀.𝓛 w₀.𝓜.mem w₀.𝓡.run κs a).ensures tt z e) (r_last _))

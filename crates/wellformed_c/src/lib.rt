@@ -5,11 +5,11 @@ ghost use Rattle.std.specs.Prelude.{◌≡◌};
 ghost use Rattle.wellformed.specs.WellFormed.{well_formed};
 ghost use Rattle.twin.specs.Twin.{opened_of};
 
+use state::State;
 use twin::Monitor;
 
 pub fn guddaroox_well_formed(m: Monitor, length: usize) -> bool
     ensures { result ≡ well_formed (opened_of m) length }
 {
-    let s = twin::opened(m);
-    wellformed::well_formed(s, length)
+    wellformed::well_formed(State::from(m), length)
 }
