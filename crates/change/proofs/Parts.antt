@@ -30,7 +30,7 @@ none_painted o = refl
 
 -- the owners that a turn leaves
 module _ (o : List ℕ) (long : length o ≡ most_pages) where
-  pub open_painted : (l : List Slot) (k : ℕ) → RunsFit (get_or l k no_slot).card.fields.r (get_or l k no_slot).card.fields.runs
+  pub open_painted : (l : List Slot) (k : ℕ) → RunsFit (get_or l k no_slot).card.fields
       → painted_runs o (get_or l k no_slot).card.fields.runs 0 (get_or l k no_slot).card.fields.r ≡ given o (get_or (map card_of l) k no_card).fields 0
   open_painted l k f = given_painted o (get_or l k no_slot).card.fields 0 long f.fits ∙ ap (λ (y : Card). given o y.fields 0) (sym (card_at_lem l k))
 
@@ -42,7 +42,7 @@ by_parts s (Frees k) l f = ap (λ (o : List ℕ). record { pages = s.pages; kept
 by_parts s (Extends k i d) l f = ap (λ (o : List ℕ). record { pages = s.pages; kept = s.kept; owner = o; slots = (with_pcr s k i d).slots; mode = s.mode; running = s.running }) (none_painted s.owner)
 by_parts s (Enrolls k mark x d) l f = ap (λ (o : List ℕ). record { pages = s.pages; kept = s.kept; owner = o; slots = set s.slots k (fresh_slot mark x d); mode = s.mode; running = s.running }) (given_painted s.owner x _ l f.1.fits)
 
-pub no_runs : RunsFit zero_fields.r zero_fields.runs
+pub no_runs : RunsFit zero_fields
 no_runs = record { few = omega arith; fits = λ i l. absurd (not-suc-le-zero l) }
 
 -- the slot is there, what is asked of it holds, and the runs' pages are there
@@ -63,10 +63,10 @@ module _ (s : State) where
   seats (Extends k i d) f = f.1
   seats (Enrolls k mark x d) f = f.0
 
-  pub seat_fits : (t : Turn) → Fits s t → (k : ℕ) → placing t ≡ Some k → RunsFit (seating (get_or s.slots k no_slot) t).fields.r (seating (get_or s.slots k no_slot) t).fields.runs
+  pub seat_fits : (t : Turn) → Fits s t → (k : ℕ) → placing t ≡ Some k → RunsFit (seating (get_or s.slots k no_slot) t).fields
   seat_fits Kept f k e = no_runs
   seat_fits (Enters y) f k e = no_runs
   seat_fits (Leaves y) f k e = no_runs
-  seat_fits (Frees j) f k e = let q : j ≡ k = cc in subst (λ (n : ℕ). RunsFit (get_or s.slots n no_slot).card.fields.r (get_or s.slots n no_slot).card.fields.runs) q f.1
+  seat_fits (Frees j) f k e = let q : j ≡ k = cc in subst (λ (n : ℕ). RunsFit (get_or s.slots n no_slot).card.fields) q f.1
   seat_fits (Extends j i d) f k e = no_runs
   seat_fits (Enrolls j mark x d) f k e = f.1

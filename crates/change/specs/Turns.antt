@@ -74,9 +74,9 @@ abbrev pub Fits : State → Turn → Type 0
 Fits s Kept = Unit {0}
 Fits s (Enters y) = Unit {0}
 Fits s (Leaves y) = Unit {0}
-Fits s (Frees k) = (k < slot_count) × RunsFit (get_or s.slots k no_slot).card.fields.r (get_or s.slots k no_slot).card.fields.runs
+Fits s (Frees k) = (k < slot_count) × RunsFit (get_or s.slots k no_slot).card.fields
 Fits s (Extends k i d) = (k < slot_count) × (i < pcr_count)
-Fits s (Enrolls k mark x d) = (k < slot_count) × RunsFit x.r x.runs
+Fits s (Enrolls k mark x d) = (k < slot_count) × RunsFit x
 
 -- it answered as planned and left memory as planned, and the state after the change is as planned
 pub record Settles (p : Plan) (payload : List ℕ) (s : State) (m : List ℕ) (c : Change) (m' : List ℕ) : Type 0 where

@@ -185,8 +185,7 @@ fn seat_stored(mut s: State, turn: Turn) -> State
 {
     if let Some(k) = placing(turn) {
         let seat = seating(s.slots[k], turn);
-        let fields = seat.fields;
-        painting::paint_runs(&mut s.owner, fields.r, fields.runs, seat.owner);
+        painting::paint_runs(&mut s.owner, &seat.fields, seat.owner);
         s.slots[k] = seat.slot;
     }
     s

@@ -12,7 +12,7 @@ use Rattle.lists.proofs.All.{all_at, all_of}
 use Rattle.lists.proofs.Any.{Found, any_find, any_hit}
 use Rattle.geometry.specs.Geometry.{most_pages}
 use Rattle.fields.specs.declared.Fields.{Fields}
-use Rattle.fields.specs.Fields.{fields_of, run_at, end_of}
+use Rattle.fields.specs.Fields.{run_at, end_of}
 use Rattle.fields.specs.Rules.{holds}
 use Rattle.fields.specs.Pages.{holds_at, has_page, under_at, pages_under}
 use Rattle.fields.proofs.Facts.{Kept}
@@ -22,12 +22,8 @@ use Rattle.state.specs.Face.{Face, owner_at, is_open}
 use Rattle.rules.specs.Tests.{open_if_named, all_open}
 
 -- what keeps the rules fits the table
-pub kept_fit : (x : Fields) → Kept x → RunsFit x.r x.runs
+pub kept_fit : (x : Fields) → Kept x → RunsFit x
 kept_fit x k = record { few = k.bounds.few_runs; fits = λ i l. (k.runs_of.run i l).last }
-
-under_alone : (x : Fields) (p : ℕ) → pages_under (fields_of x.r 0 x.runs []) p ≡ pages_under x p
-unfolding pages_under
-under_alone x p = refl
 
 in_run : (x : Fields) (i p : ℕ) → i < x.r → holds (run_at x i) p ≡ true → has_page x p ≡ true
 unfolding has_page
@@ -86,8 +82,8 @@ module _ (f : Face) (x : Fields) (k : Kept x) where
       (λ t. rw t (back (and_l (pages_under x f.pages) _ h) (and_r (pages_under x f.pages) _ h) p t))
       (λ t. rw t))
 
-  pub open_same : pages_under (fields_of x.r 0 x.runs []) f.pages && all_below x.r (owned_run f.owner x.runs 0) ≡ all_open f x
-  open_same = ap (λ (t : Bool). t && all_below x.r (owned_run f.owner x.runs 0)) (under_alone x f.pages) ∙ iff _ _ here there
+  pub open_same : pages_under x f.pages && all_below x.r (owned_run f.owner x.runs 0) ≡ all_open f x
+  open_same = iff _ _ here there
 
   -- where all are open, all runs lie in memory
   pub open_in : all_open f x ≡ true → (i : ℕ) → i < x.r → end_of (run_at x i) ≤ f.pages

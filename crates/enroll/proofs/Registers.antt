@@ -41,7 +41,7 @@ read_kept l r e h =
     (kept (read_manifest l).fields (read_keeps l (ap (λ (x : Reading). x.refusal) (sym e) ∙ h)))
 
 -- runs of open pages lie in memory
-pub open_runs : (f : Face) (x : Fields) (size : ℕ) → Kept x → all_open f x ≡ true → size ≡ start_of f.pages → RunsIn x.r x.runs size
+pub open_runs : (f : Face) (x : Fields) (size : ℕ) → Kept x → all_open f x ≡ true → size ≡ start_of f.pages → RunsIn x size
 open_runs f x size k h e = record { few = k.bounds.few_runs; fits = λ i l. omega (arith, open_in f x k h i l, e) }
 
 -- ---- the ends of the rule
@@ -69,7 +69,7 @@ measured_same : (d : Digest) (content : List ℕ) → d.bytes ≡ sha1 content �
 unfolding extended_pcrs measured
 measured_same d content e = ap (λ (b : List ℕ). set zero_pcrs 0 (record { bytes = sha1 (zero_pcr.bytes ++ b) })) e
 
-pub registered_settles : (s : State) → length s.slots ≡ slot_count → (k : ℕ) → k < slot_count → (mark : ℕ) (x : Fields) → RunsFit x.r x.runs → (payload m : List ℕ) (d : Digest) (c : Change)
+pub registered_settles : (s : State) → length s.slots ≡ slot_count → (k : ℕ) → k < slot_count → (mark : ℕ) (x : Fields) → RunsFit x → (payload m : List ℕ) (d : Digest) (c : Change)
     → d.bytes ≡ sha1 (gather page_size m (pages_of x)) → c ≡ enrolls_by k mark x d
     → Settles (registered (face_of s) k mark x) payload s m c m
 unfolding registered with_card state_of

@@ -21,15 +21,13 @@ pub fn register(s: State, payload: &[u8], memory: &[u8], mark: u64) -> Change
         return change::kept(Answer::Refused(3));
     }
     let fields = reading.fields;
-    let n = fields.r;
-    let runs = fields.runs;
-    if !free::all_open(s.pages, &s.owner, n, runs) {
+    if !free::all_open(s.pages, &s.owner, &fields) {
         return change::kept(Answer::Refused(6));
     }
     let k = free::free_slot(s);
     if Geometry::SLOTS <= k {
         return change::kept(Answer::Refused(7));
     }
-    let digest = measure::measured(memory, n, runs);
+    let digest = measure::measured(memory, &fields);
     change::enrolling(k, mark, fields, digest)
 }

@@ -87,4 +87,4 @@ pub record Comes (m : Monitor) (h : Heard) (memory buffer : List ℕ) (o : Hoste
   pub out : hosted h.reply (stored m h.turn) memory buffer ≡ o
   pub slot_there : (k : ℕ) → placing h.turn ≡ Some k → k < slot_count
   pub seats_so : Seats h.turn
-  pub runs_fit : (k : ℕ) → placing h.turn ≡ Some k → RunsFit (seat_in m h.turn k).fields.r (seat_in m h.turn k).fields.runs
+  pub runs_fit : (k : ℕ) → placing h.turn ≡ Some k → RunsFit (seat_in m h.turn k).fields

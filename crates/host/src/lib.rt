@@ -137,7 +137,7 @@ pub fn monitor_event(
     if let Some(k) = change::placing(h.turn) {
         let seat = change::seating(m.slots[k], h.turn);
         m.slots[k] = seat.slot;
-        painting::paint_runs(&mut m.owner, seat.fields.r, seat.fields.runs, seat.owner);
+        painting::paint_runs(&mut m.owner, &seat.fields, seat.owner);
     }
     h.reply
 }

@@ -1,6 +1,7 @@
 pub mod Logic
 pub mod All
 pub mod Any
+pub mod Listed
 pub mod First
 pub mod Sums
 pub mod Tables

@@ -5,10 +5,11 @@ use native.Mathlib.Numerals.{add-one}
 use native.Mathlib.Omega.{arith}
 use mathlib.Core.Path.{◌≡◌, refl, sym, ap, subst, ◌∙◌}
 use mathlib.Core.Bool.{Bool, true, false, false≢true}
-use mathlib.Core.List.{List}
+use mathlib.Core.List.{List, append_assoc}
 use mathlib.Core.Logic.{◌⊎◌, inl, inr, ⊎_elim}
-use lib.ListN.{length, get_or, set, replicate, length-replicate, get_or-replicate, replicate-append-replicate}
-use lib.Seq.{sets, length-sets}
+use borrow.Rule.Slice.PartMut.{mid_of, put_mid}
+use lib.ListN.{length, take, drop, get_or, replicate, length-drop, length-replicate, get_or-replicate}
+use lib.Seq.{sets, sets-eq, length-sets, length-take-le, drop-drop}
 use lib.Dec.{leb}
 use borrow.Author.Tests.{leb-true, ltb-true, ltb-false, leb-false}
 use Rattle.lists.specs.Below.{any_below}
@@ -20,19 +21,12 @@ use Rattle.fields.specs.Rules.{holds}
 use Rattle.painting.specs.Painting.{painted, painted_runs}
 
 module _ (l : List ℕ) (f v : ℕ) where
-  pub painted_none : l ≡ painted l f 0 v
+  -- a part of the table, filled
+  pub painted_part : (n k : ℕ) (ys : List ℕ) → f + n ≤ length l → k ≡ n → ys ≡ replicate (length (mid_of f k l)) v → put_mid f k l ys ≡ painted l f n v
   unfolding painted
-  painted_none = refl
-
-  -- a turn of the loop
-  pub painted_more : (d : List ℕ) (j : ℕ) → d ≡ painted l f j v → set d (f + j) v ≡ painted l f (j + 1) v
-  unfolding painted
-  painted_more d j h =
-      sets_turn l f j (replicate j v) v h (length-replicate j v)
-      ∙ ap (λ (xs : List ℕ). sets l f xs) (replicate-append-replicate j 1 v)
-
-  pub painted_done : (n j : ℕ) (t : List ℕ) → j ≤ n → n ≤ j → t ≡ painted l f j v → t ≡ painted l f n v
-  painted_done n j t a b h = subst (λ (k : ℕ). t ≡ painted l f k v) (le_antisymm a b) h
+  painted_part n k ys h e w =
+      let m : length (take n (drop f l)) ≡ n = length-take-le n (drop f l) (omega (arith, length-drop f l)) in
+      rw (w, e, m, sets-eq (replicate n v) l f (rw length-replicate h), length-replicate, drop-drop) (sym (append_assoc (take f l) (replicate n v) (drop (f + n) l)))
 
   pub painted_long : (n : ℕ) → length (painted l f n v) ≡ length l
   unfolding painted

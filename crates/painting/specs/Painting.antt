@@ -4,7 +4,8 @@ use Rattle.std.proofs.lemmas.List.Edits.{sets}
 use Rattle.lists.specs.Below.{all_below}
 use Rattle.geometry.specs.Geometry.{most_pages}
 use Rattle.fields.specs.declared.Run.{Run}
-use Rattle.fields.specs.Fields.{no_run, run_places, end_of}
+use Rattle.fields.specs.declared.Fields.{Fields}
+use Rattle.fields.specs.Fields.{no_run, run_places, run_at, end_of}
 
 -- n places from f on, all v
 unfoldable pub painted : List ℕ → ℕ → ℕ → ℕ → List ℕ
@@ -27,7 +28,7 @@ owned_run o rs v i = all_below (get_or rs i no_run).count (owned_from o (get_or 
 abbrev pub alike : List ℕ → List ℕ → ℕ → Bool
 alike a b p = eqb (get_or a p 0) (get_or b p 0)
 
--- there are n runs, and each lies in the table
-pub record RunsFit (n : ℕ) (rs : List Run) : Type 0 where
-  pub few : n ≤ run_places
-  pub fits : (i : ℕ) → i < n → end_of (get_or rs i no_run) ≤ most_pages
+-- the runs have their places, and each lies in the table
+pub record RunsFit (f : Fields) : Type 0 where
+  pub few : f.r ≤ run_places
+  pub fits : (i : ℕ) → i < f.r → end_of (run_at f i) ≤ most_pages

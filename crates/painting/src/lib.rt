@@ -6,7 +6,7 @@ ghost use Rattle.lists.specs.Below.{all_below};
 ghost use Rattle.geometry.specs.Geometry.{most_pages};
 ghost use Rattle.painting.specs.Painting.{painted, painted_runs, owned_from, owned_run, alike, RunsFit};
 
-use fields::{Fields, Run};
+use fields::Fields;
 use geometry::Geometry;
 
 // n places from f on become v.
@@ -14,64 +14,54 @@ pub fn paint(t: &mut [u8; Geometry::MOST_PAGES], f: usize, n: usize, v: u8)
     requires { f + n ≤ most_pages }
     ensures { t.new ≡ painted t.old f n v }
 {
-    let mut j: usize = 0;
-    while j < n {
-        t[f + j] = v;
-        j += 1;
-    }
+    t[f..f + n].fill(v);
 }
 
-// Zero where the table has v at n places from f on.
-fn run_off(o: &[u8; Geometry::MOST_PAGES], f: usize, n: usize, v: u8) -> u8
+// The table has v at n places from f on.
+#[tactic(auto, using(lists::proofs::All::bits_none))]
+fn run_owned(o: &[u8; Geometry::MOST_PAGES], f: usize, n: usize, v: u8) -> bool
     requires { f + n ≤ most_pages }
-    ensures { eqb result 0 ≡ all_below n (owned_from o.now f v) }
+    ensures { result ≡ all_below n (owned_from o.now f v) }
 {
     let mut bad: u8 = 0;
-    let mut j: usize = 0;
-    while j < n {
-        bad = bad | (o[f + j] ^ v);
-        j += 1;
+    for x in &o[f..f + n] {
+        bad |= *x ^ v;
     }
-    bad
+    bad == 0
 }
 
-// Zero where the two tables are the same.
-pub fn differ(a: &[u8; Geometry::MOST_PAGES], b: &[u8; Geometry::MOST_PAGES]) -> u8
-    ensures { eqb result 0 ≡ all_below most_pages (alike a.now b.now) }
+// The two tables are the same.
+#[tactic(auto, using(lists::proofs::All::bits_none, lists::proofs::All::bits_step, lists::proofs::All::xor_zero))]
+pub fn same(a: &[u8; Geometry::MOST_PAGES], b: &[u8; Geometry::MOST_PAGES]) -> bool
+    ensures { result ≡ all_below most_pages (alike a.now b.now) }
 {
     let mut bad: u8 = 0;
-    let mut p: usize = 0;
-    while p < Geometry::MOST_PAGES {
-        bad = bad | (a[p] ^ b[p]);
-        p += 1;
+    for p in 0..Geometry::MOST_PAGES {
+        bad |= a[p] ^ b[p];
     }
-    bad
+    bad == 0
 }
 
-// Zero where the table has v at every page of the n runs.
-pub fn runs_off(o: &[u8; Geometry::MOST_PAGES], n: usize, runs: [Run; Fields::RUNS], v: u8) -> u8
-    requires { RunsFit n runs }
-    ensures { eqb result 0 ≡ all_below n (owned_run o.now runs v) }
+// The table has v at every page of the runs.
+#[tactic(auto, using(lists::proofs::All::all_none))]
+pub fn runs_owned(o: &[u8; Geometry::MOST_PAGES], f: &Fields, v: u8) -> bool
+    requires { RunsFit f.now }
+    ensures { result ≡ all_below f.now.r (owned_run o.now f.now.runs v) }
 {
-    let mut bad: u8 = 0;
-    let mut i: usize = 0;
-    while i < n {
-        let x = runs[i];
-        bad = bad | run_off(o, x.first as usize, x.count as usize, v);
-        i += 1;
+    let mut ok = true;
+    for x in &f.runs[..f.r] {
+        ok &= run_owned(o, x.first as usize, x.count as usize, v);
     }
-    bad
+    ok
 }
 
-// The pages of the n runs become v.
-pub fn paint_runs(t: &mut [u8; Geometry::MOST_PAGES], n: usize, runs: [Run; Fields::RUNS], v: u8)
-    requires { RunsFit n runs }
-    ensures { t.new ≡ painted_runs t.old runs v n }
+// The pages of the runs become v.
+#[tactic(auto, unfolding(crate::specs::Painting::painted_runs))]
+pub fn paint_runs(t: &mut [u8; Geometry::MOST_PAGES], f: &Fields, v: u8)
+    requires { RunsFit f.now }
+    ensures { t.new ≡ painted_runs t.old f.now.runs v f.now.r }
 {
-    let mut i: usize = 0;
-    while i < n {
-        let x = runs[i];
+    for x in &f.runs[..f.r] {
         paint(t, x.first as usize, x.count as usize, v);
-        i += 1;
     }
 }

@@ -12,7 +12,7 @@ use Rattle.lists.proofs.Logic.{and_l, and_r, decided, pick_true, pick_false}
 use Rattle.lists.proofs.All.{all_at}
 use Rattle.geometry.specs.Geometry.{page_size, slot_count, start_of, page_of}
 use Rattle.fields.specs.declared.Fields.{Fields}
-use Rattle.fields.specs.Fields.{fields_of, run_at, end_of}
+use Rattle.fields.specs.Fields.{run_at, end_of}
 use Rattle.fields.specs.Rules.{in_code}
 use Rattle.fields.specs.Pages.{pages_of, pages_under, under_at}
 use Rattle.state.specs.declared.Card.{Card}
@@ -57,24 +57,20 @@ module _ (s : State) (h : state_right s ≡ true) where
       let q = eqb-true x.fields.r 0 (and_l (eqb x.fields.r 0) _ (and_l (eqb x.fields.r 0 && eqb x.fields.e 0) _ (and_r (eqb x.mark 0) _ u))) in
       absurd (omega arith))
 
-  runs_fit_at : (k : ℕ) → k < slot_count → RunsFit (card_at (face_of s) k).fields.r (card_at (face_of s) k).fields.runs
+  runs_fit_at : (k : ℕ) → k < slot_count → RunsFit (card_at (face_of s) k).fields
   runs_fit_at k l = record { few = few_runs s h k l; fits = λ i b. omega (arith, runs_under k l i b, few_pages s h) }
 
   -- as the state has the slot
-  runs_fit : (k : ℕ) → k < slot_count → RunsFit (get_or s.slots k no_slot).card.fields.r (get_or s.slots k no_slot).card.fields.runs
-  runs_fit k l = subst (λ (x : Card). RunsFit x.fields.r x.fields.runs) (card_at_lem s.slots k) (runs_fit_at k l)
+  runs_fit : (k : ℕ) → k < slot_count → RunsFit (get_or s.slots k no_slot).card.fields
+  runs_fit k l = subst (λ (x : Card). RunsFit x.fields) (card_at_lem s.slots k) (runs_fit_at k l)
 
 -- as the code has the slot
-pub runs_in_lem : (s : State) (n : ℕ) → well_formed s n ≡ true → (k : ℕ) (x : Slot) → k < slot_count → IsSlot s k x → RunsIn x.card.fields.r x.card.fields.runs n
+pub runs_in_lem : (s : State) (n : ℕ) → well_formed s n ≡ true → (k : ℕ) (x : Slot) → k < slot_count → IsSlot s k x → RunsIn x.card.fields n
 runs_in_lem s n w k x l o =
     let h = well_state s n w in
     rw (card_is s k x o) (record { few = few_runs s h k l; fits = λ i b. omega (arith, runs_under s h k l i b, well_long s n w) })
 
 -- ---- the rule's release
-
-pub pages_alone : (x : Fields) → pages_of (fields_of x.r 0 x.runs []) ≡ pages_of x
-unfolding pages_of
-pages_alone x = refl
 
 module _ (s : State) (k : ℕ) (e : length s.slots ≡ slot_count) (l : k < slot_count) (a : Answer) (payload m m' : List ℕ) where
   vacated_state : vacated s k ≡ state_of (released (face_of s) k a).next (sealed (released (face_of s) k a).seal payload m (pcrs_of s))
@@ -84,13 +80,13 @@ module _ (s : State) (k : ℕ) (e : length s.slots ≡ slot_count) (l : k < slot
       (sym (state_set s k zero_slot e l))
 
   pub released_settles : (x : Slot) → IsSlot s k x → state_right s ≡ true → (c : Change) → c ≡ turn_of a (Frees k)
-      → m' ≡ wipe page_size m (pages_of (fields_of x.card.fields.r 0 x.card.fields.runs []))
+      → m' ≡ wipe page_size m (pages_of x.card.fields)
       → Settles (released (face_of s) k a) payload s m c m'
   unfolding released
   released_settles x o h c p q =
       subst (λ (z : Change). Settles (released (face_of s) k a) payload s m z m') (sym p)
       (record {
-        steps = record { answer = refl; state = vacated_state; memory = q ∙ ap (wipe page_size m) (pages_alone _ ∙ ap (λ (y : Card). pages_of y.fields) (card_is s k x o)) };
+        steps = record { answer = refl; state = vacated_state; memory = q ∙ ap (λ (y : Card). wipe page_size m (pages_of y.fields)) (card_is s k x o) };
         fits = (l, runs_fit s h k l);
       })
 

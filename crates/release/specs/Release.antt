@@ -1,10 +1,10 @@
 -- What a release asks.
-use Rattle.std.specs.Prelude.{ℕ, ◌≤◌, ◌<◌, List, get_or}
+use Rattle.std.specs.Prelude.{ℕ, ◌≤◌, ◌<◌}
 use Rattle.geometry.specs.Geometry.{start_of}
-use Rattle.fields.specs.declared.Run.{Run}
-use Rattle.fields.specs.Fields.{no_run, run_places, end_of}
+use Rattle.fields.specs.declared.Fields.{Fields}
+use Rattle.fields.specs.Fields.{run_places, run_at, end_of}
 
--- there are n runs, and each lies in a memory of so many bytes
-pub record RunsIn (n : ℕ) (runs : List Run) (size : ℕ) : Type 0 where
-  pub few : n ≤ run_places
-  pub fits : (i : ℕ) → i < n → start_of (end_of (get_or runs i no_run)) ≤ size
+-- the runs have their places, and each lies in a memory of so many bytes
+pub record RunsIn (f : Fields) (size : ℕ) : Type 0 where
+  pub few : f.r ≤ run_places
+  pub fits : (i : ℕ) → i < f.r → start_of (end_of (run_at f i)) ≤ size

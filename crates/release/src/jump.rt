@@ -35,13 +35,10 @@ fn jump_secure(s: State, slot: Slot, v: u8, memory: &mut [u8], k: usize, address
     let page = address / Geometry::PAGE;
     let own = pages::is_own(v, k);
     let code = pages::in_code_of(slot, page);
-    let fields = slot.card.fields;
-    let n = fields.r;
-    let runs = fields.runs;
     if own & code {
         return change::kept(Answer::Done);
     }
-    release::release(memory, n, runs, k, Answer::Terminated(k))
+    release::release(memory, &slot.card.fields, k, Answer::Terminated(k))
 }
 
 pub fn jump(s: State, slot: Slot, v: u8, memory: &mut [u8], address: usize) -> Change

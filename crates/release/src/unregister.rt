@@ -23,11 +23,8 @@ pub fn unregister(s: State, slot: Slot, memory: &mut [u8], mark: u64, k: usize) 
     }
     let registered = slot.card.registered;
     let under = slot.card.mark;
-    let fields = slot.card.fields;
-    let n = fields.r;
-    let runs = fields.runs;
     if registered & (under == mark) {
-        return release::release(memory, n, runs, k, Answer::Done);
+        return release::release(memory, &slot.card.fields, k, Answer::Done);
     }
     change::kept(Answer::Refused(8))
 }

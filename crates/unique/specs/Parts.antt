@@ -1,7 +1,5 @@
--- One outcome for each input: the machine, the hash, the manifest and the state. Exceptions, each with what is one of it:
--- `differ` and `runs_off` say whether anything is not zero, and not which number stands for it: whether it is 0;
+-- One outcome for each input: the machine, the hash, the manifest and the state. One exception, with what is one of it:
 -- `chosen` hands back a part of what it was lent: its bytes, and not the reference's own name in the proof.
-use Rattle.std.specs.Prelude.{eqb}
 use Rattle.geometry.specs.contracts.Geometry.numbers as geometry_numbers
 use Rattle.geometry.specs.contracts.Geometry.page_of as geometry_page_of
 use Rattle.geometry.specs.contracts.Geometry.start_of as geometry_start_of
@@ -34,8 +32,8 @@ use Rattle.keeps.specs.contracts.keeps_rules as keeps_keeps_rules
 use Rattle.manifest.specs.contracts.read as manifest_read
 use Rattle.manifest.specs.contracts.write as manifest_write
 use Rattle.painting.specs.contracts.paint as painting_paint
-use Rattle.painting.specs.contracts.differ as painting_differ
-use Rattle.painting.specs.contracts.runs_off as painting_runs_off
+use Rattle.painting.specs.contracts.same as painting_same
+use Rattle.painting.specs.contracts.runs_owned as painting_runs_owned
 use Rattle.painting.specs.contracts.paint_runs as painting_paint_runs
 use Rattle.state.specs.contracts.Slot.zero as state_zero
 use Rattle.state.specs.contracts.Slot.cleared as state_cleared
@@ -88,8 +86,8 @@ pub record Parts : Type 0 where
   pub manifest_read_one : OneOutcome manifest_read.ended (λ κs a z e. told ((manifest_read.clauses w₀.𝓛 w₀.𝓜.mem w₀.𝓡.run κs a).ensures tt z e) (r_last _))
   pub manifest_write_one : OneOutcome manifest_write.ended (λ κs a z e. told ((manifest_write.clauses w₀.𝓛 w₀.𝓜.mem w₀.𝓡.run κs a).ensures tt z e) (r_last _))
   pub painting_paint_one : OneOutcome painting_paint.ended (λ κs a z e. told ((painting_paint.clauses w₀.𝓛 w₀.𝓜.mem w₀.𝓡.run κs a).ensures tt z e) (r_last _))
-  pub painting_differ_one : OneView painting_differ.ended (λ κs a z e. told ((painting_differ.clauses w₀.𝓛 w₀.𝓜.mem w₀.𝓡.run κs a).ensures tt z e) (r_last _)) (λ κs a z w. eqb z 0)
-  pub painting_runs_off_one : OneView painting_runs_off.ended (λ κs a z e. told ((painting_runs_off.clauses w₀.𝓛 w₀.𝓜.mem w₀.𝓡.run κs a).ensures tt z e) (r_last _)) (λ κs a z w. eqb z 0)
+  pub painting_same_one : OneOutcome painting_same.ended (λ κs a z e. told ((painting_same.clauses w₀.𝓛 w₀.𝓜.mem w₀.𝓡.run κs a).ensures tt z e) (r_last _))
+  pub painting_runs_owned_one : OneOutcome painting_runs_owned.ended (λ κs a z e. told ((painting_runs_owned.clauses w₀.𝓛 w₀.𝓜.mem w₀.𝓡.run κs a).ensures tt z e) (r_last _))
   pub painting_paint_runs_one : OneOutcome painting_paint_runs.ended (λ κs a z e. told ((painting_paint_runs.clauses w₀.𝓛 w₀.𝓜.mem w₀.𝓡.run κs a).ensures tt z e) (r_last _))
   pub state_zero_one : OneOutcome state_zero.ended (λ κs a z e. told ((state_zero.clauses w₀.𝓛 w₀.𝓜.mem w₀.𝓡.run κs a).ensures tt z e) (r_last _))
   pub state_cleared_one : OneOutcome state_cleared.ended (λ κs a z e. told ((state_cleared.clauses w₀.𝓛 w₀.𝓜.mem w₀.𝓡.run κs a).ensures tt z e) (r_last _))

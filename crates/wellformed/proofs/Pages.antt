@@ -58,7 +58,7 @@ runs_under x top h i l =
     (λ e. leb-true (end_of (run_at x.fields i)) top (all_at (under_at x.fields top) x.fields.r (card_under x top h e) i l))
     (λ e. absurd (omega (arith, no_runs x top h e)))
 
-pub runs_fit : (x : Card) (top : ℕ) → top ≤ most_pages → card_right x top ≡ true → RunsFit x.fields.r x.fields.runs
+pub runs_fit : (x : Card) (top : ℕ) → top ≤ most_pages → card_right x top ≡ true → RunsFit x.fields
 runs_fit x top m h = record { few = card_few x top h; fits = λ i l. omega (arith, runs_under x top h i l) }
 
 record Nobody (f : Face) (p n : ℕ) : Type 0 where

@@ -103,13 +103,11 @@ pub fn tried(
     if !x.card.registered {
         return w;
     }
-    let f = x.card.fields;
-    let runs = f.runs;
     let v = (k + 1) as u8;
-    let off = painting::runs_off(owner, f.r, runs, v);
-    painting::paint_runs(t, f.r, runs, v);
+    let own = painting::runs_owned(owner, &x.card.fields, v);
+    painting::paint_runs(t, &x.card.fields, v);
     Test {
-        right: off == 0,
+        right: own,
         top: w.top,
     }
 }
@@ -132,9 +130,9 @@ pub fn sighted(
     if !(w.right & ((pages <= Geometry::MOST_PAGES) & (card.fields.e <= Fields::ENTRIES))) {
         return unseen();
     }
-    let off = painting::differ(t, owner);
+    let same = painting::same(t, owner);
     let right = running::mode_right(mode, running, card, owner, pages);
-    if !((off == 0) & right) {
+    if !(same & right) {
         return unseen();
     }
     let first = owner_of(owner, page);

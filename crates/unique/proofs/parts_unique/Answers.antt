@@ -37,8 +37,8 @@ returns c = record {
   manifest_read_one = λ κs a z z' w w'. result;
   manifest_write_one = λ κs a z z' w w' p q. let o = both p q in ((λ i. (o i).answer), λ i. (tt, ((o i).buffer, tt)));
   painting_paint_one = λ κs a z z' w w' p q. (refl, λ i. (both p q i, (tt, (tt, (tt, tt)))));
-  painting_differ_one = λ κs a z z' w w' p q. both p q;
-  painting_runs_off_one = λ κs a z z' w w' p q. both p q;
+  painting_same_one = λ κs a z z' w w'. result;
+  painting_runs_owned_one = λ κs a z z' w w'. result;
   painting_paint_runs_one = λ κs a z z' w w' p q. (refl, λ i. (both p q i, (tt, (tt, (tt, tt)))));
   state_zero_one = λ κs a z z' w w'. result;
   state_cleared_one = λ κs a z z' w w'. result;

@@ -1,25 +1,19 @@
-use Rattle.fields.specs.Pages.{under_at, pages_under}
-use Rattle.fields.specs.Fields.{fields_of}
-use Rattle.lists.proofs.All.{all_none, all_step, all_end}
-use lib.Dec.{leb}
-use Prim.Native.Nat.{ℕ}
-use mathlib.Core.List.{[]}
-use mathlib.Core.Path.{ap}
+use mathlib.Core.Path.{◌∙◌}
 use native.Mathlib.Omega.{arith}
+use lib.Dec.{leb}
+use lib.ListN.{take, length-take}
+use Rattle.std.proofs.Common.{rules, tests}
+use Rattle.std.proofs.lemmas.Iterator.{YieldsList-from_slice}
+use Rattle.std.proofs.lemmas.Iterator.Search.{all_from_yields_List}
+use Rattle.lists.proofs.Listed.{all_listed}
+use Rattle.fields.specs.declared.Run.{Run}
+use Rattle.fields.specs.Fields.{no_run, end_of}
+use Rattle.fields.specs.Pages.{pages_under}
 use Rattle.enroll.proofs.free.all_under.Goals as goal
-
-pub loop-i-init : goal.loop-i-init
-loop-i-init c = (omega arith, all_none _)
-
-pub loop-i-preserved : goal.loop-i-preserved
-loop-i-preserved c =
-    let a = c.args in
-    let l = c.loop-i in
-    (omega arith, all_step (under_at (fields_of a.n 0 a.runs []) a.pages) l.i l.ok _ l.invariant.1 (ap (λ (e : ℕ). leb e a.pages) c.run_end-end.ensures.0))
 
 pub returns : goal.returns
 unfolding pages_under
 returns c =
-    let a = c.args in
-    let l = c.loop-i in
-    all_end (under_at (fields_of a.n 0 a.runs []) a.pages) a.n l.i l.ok l.invariant.0 c.loop-i-test.false l.invariant.1
+    let f = c.args.f.now in
+    all_from_yields_List (λ (x : Run). leb (end_of x) c.args.pages) _ _ _ c.all.ensures.ran (YieldsList-from_slice (take f.r f.runs) cc) (λ x b q k. search (rules, tests))
+    ∙ all_listed (λ (x : Run). leb (end_of x) c.args.pages) f.runs no_run f.r (omega (arith, length-take f.r f.runs))

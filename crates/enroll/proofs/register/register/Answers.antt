@@ -1,6 +1,5 @@
 use Rattle.enroll.proofs.Registers.{read_kept, open_runs, register_3, register_6, register_7, register_on, registered_settles}
 use Rattle.enroll.proofs.Opened.{kept_fit, open_same}
-use Rattle.release.proofs.Releases.{pages_alone}
 use Rattle.change.proofs.Settled.{still_settles, to_plan}
 use Rattle.wellformed.proofs.States.{well_long}
 use Rattle.rules.specs.Decide.{register_rule, registered}
@@ -20,7 +19,6 @@ use mathlib.Core.Path.{◌≡◌, sym, ap, ◌∙◌}
 use mathlib.Core.Bool.{Bool, ◌&&◌}
 use Rattle.lists.specs.Below.{all_below}
 use Rattle.fields.specs.declared.Fields.{Fields}
-use Rattle.fields.specs.Fields.{fields_of}
 use Rattle.fields.specs.Pages.{pages_under}
 use Rattle.painting.specs.Painting.{owned_run}
 use Rattle.fields.proofs.Facts.{Kept}
@@ -28,7 +26,7 @@ use native.Mathlib.Omega.{arith}
 use Rattle.enroll.proofs.register.register.Goals as goal
 
 -- past the second branch its pages are open
-open_so : (f : Face) (x : Fields) (b : Bool) → Kept x → b ≡ pages_under (fields_of x.r 0 x.runs []) f.pages && all_below x.r (owned_run f.owner x.runs 0) → all_open f x ≡ b
+open_so : (f : Face) (x : Fields) (b : Bool) → Kept x → b ≡ pages_under x f.pages && all_below x.r (owned_run f.owner x.runs 0) → all_open f x ≡ b
 open_so f x b k e = sym (open_same f x k) ∙ sym e
 
 pub returns-then-reading-ne0 : goal.returns-then-reading-ne0
@@ -87,6 +85,5 @@ returns c =
     let p = ap (λ (j : ℕ). registered f j a.mark r.fields) n
     ∙ sym (register_on f a.mark r (eq-eqb r.refusal 0 z) o (lt-ltb (free_slot f) slot_count (omega (arith, n, c.if-k-ge-SLOTS.false))))
     ∙ ap (λ (x : Reading). register_rule f a.mark x) q in
-    let d = c.measured-digest.ensures ∙ ap (λ (ps : List ℕ). sha1 (gather page_size a.memory.now ps)) (pages_alone r.fields) in
     to_plan p a.payload.now a.s a.memory.now
-    (registered_settles a.s (state_shape a.s _ c.well_formed.0).slots_long c.free_slot-k.result c.if-k-ge-SLOTS.false a.mark r.fields (kept_fit _ k) a.payload.now a.memory.now c.measured-digest.result _ d c.enrolling.ensures)
+    (registered_settles a.s (state_shape a.s _ c.well_formed.0).slots_long c.free_slot-k.result c.if-k-ge-SLOTS.false a.mark r.fields (kept_fit _ k) a.payload.now a.memory.now c.measured-digest.result _ c.measured-digest.ensures c.enrolling.ensures)

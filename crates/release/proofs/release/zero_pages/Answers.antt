@@ -1,30 +1,29 @@
-use Rattle.release.proofs.Wiped.{wipe_turn}
-use Rattle.fields.specs.Pages.{run_pages, pages_of}
-use Rattle.fields.specs.Fields.{fields_of}
-use Rattle.geometry.specs.Geometry.{page_size}
-use Rattle.lists.proofs.Pages.{wipe_none}
-use Rattle.lists.specs.Bytes.{wipe}
-use Rattle.lists.specs.Below.{joined}
-use Prim.Native.Nat.{ℕ}
-use mathlib.Core.List.{[]}
-use mathlib.Core.Path.{◌≡◌, refl, ap, ◌∙◌}
+use Prim.Native.Nat.{ℕ, ◌<◌}
 use native.Mathlib.Omega.{arith}
+use mathlib.Core.Path.{◌≡◌, refl, ap, ◌∙◌}
+use lib.ListN.{length-take}
+use lib.Seq.{get_or-take}
+use Rattle.lists.specs.Below.{joined}
+use Rattle.lists.specs.Bytes.{wipe}
+use Rattle.lists.proofs.Pages.{wipe_none}
+use Rattle.geometry.specs.Geometry.{page_size}
+use Rattle.fields.specs.Pages.{run_pages, pages_of}
+use Rattle.release.proofs.Wiped.{wipe_turn}
 use Rattle.release.proofs.release.zero_pages.Goals as goal
 
-pub loop-i-init : goal.loop-i-init
+pub loop-x-init : goal.loop-x-init
 unfolding joined
-loop-i-init c = (omega arith, (wipe_none page_size _, refl))
+loop-x-init c = wipe_none page_size _
 
-pub loop-i-preserved : goal.loop-i-preserved
-loop-i-preserved c =
-    let l = c.loop-i in
-    let s = c.args in
-    (omega arith, (wipe_turn page_size s.memory.now (run_pages (fields_of s.n 0 s.runs [])) l.i l.invariant.1.0 c.zero_run.ensures, c.zero_run.auto.memory ∙ l.invariant.1.1))
+pub loop-x-preserved : goal.loop-x-preserved
+loop-x-preserved c =
+    let f = c.args.f.now in
+    let h : c.loop-x.x-index < f.r = omega (arith, length-take f.r f.runs) in
+    wipe_turn page_size c.args.memory.now (run_pages f) c.loop-x.x-index c.loop-x.invariant (c.zero_run.ensures ∙ rw get_or-take)
 
 pub returns : goal.returns
 unfolding pages_of
 returns c =
-    let l = c.loop-i in
-    let s = c.args in
-    let e : l.i ≡ s.n = omega (arith, c.loop-i-test.false) in
-    l.invariant.1.0 ∙ ap (λ (k : ℕ). wipe page_size s.memory.now (joined k (run_pages (fields_of s.n 0 s.runs [])))) e
+    let f = c.args.f.now in
+    let e : c.loop-x.x-index ≡ f.r = omega (arith, length-take f.r f.runs) in
+    c.loop-x.invariant ∙ ap (λ (k : ℕ). wipe page_size c.args.memory.now (joined k (run_pages f))) e
