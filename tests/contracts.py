@@ -41,7 +41,7 @@ def functions(text):
     for m in TRAIT.finditer(text):  # by the toolchain's name of the `impl`
         end = closing(text, m.end() - 1)
         said = [("ensures", clause) for clause in re.findall(r"\bghost\s+\w+\s*=\s*\{(.*?)\};", text[m.end():end], re.S)]
-        spans.append((m.start(), end, m.group(3) + m.group(1) + "".join(re.findall(r"\w+", m.group(2) or "")), said))
+        spans.append((m.start(), end, "".join(word[0].upper() + word[1:] for word in (m.group(3), m.group(1), *re.findall(r"\w+", m.group(2) or ""))), said))
         heads += METHOD.finditer(text, m.end(), end)
     for m in heads:
         begin = text.index("(", m.end())

@@ -56,7 +56,7 @@ class Crate:
         for path in sorted((ROOT / "crates" / name / "src").rglob("*.rt")):
             text = re.sub(r"//[^\n]*", "", path.read_text(encoding="utf-8"))
             heads = list(HEAD.finditer(text))
-            impls = [(m.start(), m.end(), m.group(3) + m.group(1) + "".join(re.findall(r"\w+", m.group(2) or ""))) for m in TRAIT.finditer(text)]
+            impls = [(m.start(), m.end(), "".join(word[0].upper() + word[1:] for word in (m.group(3), m.group(1), *re.findall(r"\w+", m.group(2) or "")))) for m in TRAIT.finditer(text)]
             for head, after in zip(heads, heads[1:] + [None]):
                 end = after.start() if after else len(text)
                 start = head.end() - len(head.group().lstrip())

@@ -23,6 +23,7 @@ use Rattle.events.specs.declared.Event.{Event}
 use Rattle.events.specs.declared.Event.TheVariants.{Read}
 use Rattle.events.specs.declared.Answer.{Answer}
 use Rattle.events.specs.declared.Answer.TheVariants.{Filled, Refused}
+use Rattle.events.specs.declared.Refusal.TheVariants.{NotWellFormed, OutOfRange, NotReached}
 use Rattle.rules.specs.Plan.{guard}
 use Rattle.rules.specs.Tests.{entry_of, slot_for, free_slot, all_open}
 use Rattle.rules.specs.Decide.{released, registered, register_rule, unregister_rule, entered, call_entry, call_rule, return_rule, jump_legacy, jump_secure, read_rule, write_rule, extend_rule, pcr_rule, rule_in, decide}
@@ -39,7 +40,7 @@ unfolding answered
 told s w room size x e a h = rw (answered, w) h
 
 -- and on one that is not
-unwell : (s : State) → well_formed s (s.pages * page_size) ≡ false → (room size : ℕ) (x : Reading) (e : Event) → answered s room size x e ≡ Refused 1
+unwell : (s : State) → well_formed s (s.pages * page_size) ≡ false → (room size : ℕ) (x : Reading) (e : Event) → answered s room size x e ≡ Refused NotWellFormed
 unfolding answered decide guard
 unwell s w room size x e = rw (answered, w)
 
@@ -72,12 +73,12 @@ examples_hold =
     (entry _ _ refl
     (entry _ _ refl
     (read_then 4095 1 (Filled 1) _ _ refl refl
-    (read_then 4095 2 (Refused 4) _ _ refl refl
+    (read_then 4095 2 (Refused OutOfRange) _ _ refl refl
     (read_then 0 4096 (Filled 4096) _ _ refl refl
-    (read_then 0 0 (Refused 4) _ _ refl refl
-    (read_then 0 4097 (Refused 4) _ _ refl refl
-    (read_then 32767 1 (Refused 5) _ _ refl refl
-    (read_then 32768 1 (Refused 4) _ [] refl refl none_right)))))))))))))))
+    (read_then 0 0 (Refused OutOfRange) _ _ refl refl
+    (read_then 0 4097 (Refused OutOfRange) _ _ refl refl
+    (read_then 32767 1 (Refused NotReached) _ _ refl refl
+    (read_then 32768 1 (Refused OutOfRange) _ [] refl refl none_right)))))))))))))))
 
 -- ---- the tables
 

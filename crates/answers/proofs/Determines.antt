@@ -9,6 +9,8 @@ use lib.Dec.{ltb}
 use borrow.Author.Tests.{ltb-false}
 use Rattle.lists.proofs.Logic.{decided, pick_true, pick_false}
 use Rattle.events.specs.declared.Answer.TheVariants.{Done, Slot, Entered, Left, Terminated, Filled, Refused}
+use Rattle.events.specs.Refusals.{number_of}
+use Rattle.events.proofs.Numbers.{number_own, number_small}
 use Rattle.numerals.specs.Decimal.{decimal}
 use Rattle.numerals.specs.Hex.{pairs}
 use Rattle.answers.specs.Text.{clipped, most_shown, shown_of, ended, Fits, Determined}
@@ -92,4 +94,4 @@ determines (Refused r₁) (Entered s₂) x y f g e = absurd (omega (arith, ap ta
 determines (Refused r₁) (Left n₂) x y f g e = absurd (omega (arith, ap tag e))
 determines (Refused r₁) (Terminated s₂) x y f g e = absurd (omega (arith, ap tag e))
 determines (Refused r₁) (Filled n₂) x y f g e = absurd (omega (arith, ap tag e))
-determines (Refused r₁) (Refused r₂) x y f g e = (ap Refused (number_same (110 ∷ 111 ∷ 32 ∷ []) r₁ r₂ f g e), refl)
+determines (Refused r₁) (Refused r₂) x y f g e = (ap Refused (number_own r₁ r₂ (number_same (110 ∷ 111 ∷ 32 ∷ []) (number_of r₁) (number_of r₂) (number_small r₁) (number_small r₂) e)), refl)

@@ -11,6 +11,7 @@ use Rattle.lists.proofs.Logic.{decided, pick_true, pick_false}
 use Rattle.lists.proofs.Parts.{sets_turn, sets_next}
 use Rattle.events.specs.declared.Answer.{Answer}
 use Rattle.events.specs.declared.Answer.TheVariants.{Done, Slot, Entered, Left, Terminated, Filled, Refused}
+use Rattle.events.specs.Refusals.{number_of}
 use Rattle.numerals.specs.Decimal.{digits, decimal}
 use Rattle.numerals.specs.Hex.{pairs}
 use Rattle.answers.specs.Text.{clipped, most_shown, longest_text, shown_of, ended, text_of, printed}
@@ -115,4 +116,4 @@ text_room (Entered s) buffer = let h = number_room s in (omega arith, omega arit
 text_room (Left n) buffer = let h = number_room n in (omega arith, omega arith)
 text_room (Terminated s) buffer = let h = number_room s in (omega arith, omega arith)
 text_room (Filled n) buffer = let h = bytes_room n buffer in (omega arith, omega arith)
-text_room (Refused r) buffer = let h = number_room r in (omega arith, omega arith)
+text_room (Refused r) buffer = let h = number_room (number_of r) in (omega arith, omega arith)

@@ -4,6 +4,7 @@ use Rattle.geometry.specs.Geometry.{page_size}
 use Rattle.lists.specs.Below.{pick}
 use Rattle.events.specs.declared.Answer.{Answer}
 use Rattle.events.specs.declared.Answer.TheVariants.{Done, Slot, Entered, Left, Terminated, Filled, Refused}
+use Rattle.events.specs.Refusals.{number_of}
 use Rattle.numerals.specs.Decimal.{decimal}
 use Rattle.numerals.specs.Hex.{pairs}
 
@@ -41,7 +42,7 @@ text_of (Terminated s) buffer = (100 ∷ 101 ∷ 97 ∷ 100 ∷ 32 ∷ []) ++ en
 -- hex and the bytes
 text_of (Filled n) buffer = (104 ∷ 101 ∷ 120 ∷ 32 ∷ []) ++ ended (pairs (shown_of n buffer))
 -- no R
-text_of (Refused r) buffer = (110 ∷ 111 ∷ 32 ∷ []) ++ ended (decimal r)
+text_of (Refused r) buffer = (110 ∷ 111 ∷ 32 ∷ []) ++ ended (decimal (number_of r))
 
 -- into room for any text, or nothing
 unfoldable pub printed : ℕ → Answer → List ℕ → List ℕ
@@ -57,7 +58,7 @@ Fits (Entered s) buffer = s < 2 ^ 64
 Fits (Left n) buffer = n < 2 ^ 64
 Fits (Terminated s) buffer = s < 2 ^ 64
 Fits (Filled n) buffer = (n ≤ most_shown) × (n ≤ length buffer) × ((i : ℕ) → get_or buffer i 0 < 256)
-Fits (Refused r) buffer = r < 2 ^ 64
+Fits (Refused r) buffer = Unit {0}
 
 -- the bytes of the buffer that an answer speaks of
 abbrev pub told_bytes : Answer → List ℕ → List ℕ

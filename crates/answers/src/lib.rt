@@ -5,9 +5,10 @@ ghost use Rattle.std.specs.Prelude.{◌≡◌, List, [], ◌∷◌, ◌++◌, �
 ghost use Rattle.std.proofs.lemmas.List.Edits.{sets};
 ghost use Rattle.numerals.specs.Decimal.{decimal};
 ghost use Rattle.numerals.specs.Hex.{pairs};
+ghost use Rattle.events.specs.Refusals.{number_of};
 ghost use Rattle.answers.specs.Text.{clipped, most_shown, shown_of, ended, printed, Determined};
 
-use events::Answer;
+use events::{Answer, Refusal};
 use geometry::Geometry;
 
 // The most characters of an answer's text, its newline too.
@@ -22,10 +23,11 @@ fn clip(n: usize, most: usize) -> usize
     most
 }
 
-fn wide(x: u8) -> u64
-    ensures { result ≡ x }
+// The number given for no.
+fn number(r: Refusal) -> u64
+    ensures { result ≡ number_of r }
 {
-    x as u64
+    u64::from(u8::from(r))
 }
 
 fn count(x: usize) -> u64
@@ -85,7 +87,7 @@ pub fn say(answer: Answer, buffer: &[u8], text: &mut [u8]) -> usize
             let m = clip(clip(n, Geometry::PAGE), buffer.len());
             say_bytes(text, b"hex ", &buffer[..m])
         }
-        Answer::Refused(r) => say_number(text, b"no ", wide(r)),
+        Answer::Refused(r) => say_number(text, b"no ", number(r)),
     }
 }
 

@@ -37,6 +37,7 @@ use Rattle.wellformed.specs.WellFormed.{state_right, well_formed, output_at, out
 use Rattle.wellformed.proofs.Facts.{card_rules, card_free, held_under}
 use Rattle.wellformed.proofs.Runs.{out_none, out_range}
 use Rattle.events.specs.declared.Answer.TheVariants as answer
+use Rattle.events.specs.declared.Refusal.TheVariants.{OutOfRange, NotReached, NotFound}
 use Rattle.rules.specs.Plan.{refuse}
 use Rattle.rules.specs.Tests.{in_range, unlooked, kept_as, under_mark, entry_of, callable_at, slot_for, with_mode}
 use Rattle.rules.specs.Decide.{call_rule, call_entry, entry_for, entered, return_rule, out_from}
@@ -158,13 +159,13 @@ entry_by s k x a e = ap (λ (y : Slot). entry_found y.card a) (sym e)
 -- ---- the ends of call
 
 module _ (f : Face) (mark a i o : ℕ) where
-  pub call_8 : ltb (slot_for f mark a) slot_count ≡ false → call_rule f mark a i o ≡ refuse 8 f
+  pub call_8 : ltb (slot_for f mark a) slot_count ≡ false → call_rule f mark a i o ≡ refuse NotFound f
   unfolding call_rule
-  call_8 e = stop _ 8 f _ e
+  call_8 e = stop _ NotFound f _ e
 
   pub call_on : ltb (slot_for f mark a) slot_count ≡ true → call_rule f mark a i o ≡ call_entry f (slot_for f mark a) (entry_for f (slot_for f mark a) a) i o
   unfolding call_rule
-  call_on e = pass _ 8 f _ e
+  call_on e = pass _ NotFound f _ e
 
   -- the slot that is found is registered, with the entry
   pub slot_callable : slot_for f mark a < slot_count → callable_at f mark a (slot_for f mark a) ≡ true
@@ -184,25 +185,25 @@ module _ (f : Face) (k : ℕ) (x : Entry) (i o : ℕ) where
   abbrev pub out_open : Bool
   out_open = unlooked x.output (is_open f (page_of o))
 
-  pub in_4 : in_right ≡ false → call_entry f k x i o ≡ refuse 4 f
+  pub in_4 : in_right ≡ false → call_entry f k x i o ≡ refuse OutOfRange f
   unfolding call_entry
-  in_4 e = stop in_right 4 f _ e
+  in_4 e = stop in_right OutOfRange f _ e
 
-  pub out_4 : in_right ≡ true → out_right_lem ≡ false → call_entry f k x i o ≡ refuse 4 f
+  pub out_4 : in_right ≡ true → out_right_lem ≡ false → call_entry f k x i o ≡ refuse OutOfRange f
   unfolding call_entry
-  out_4 e g = pass in_right 4 f _ e ∙ stop out_right_lem 4 f _ g
+  out_4 e g = pass in_right OutOfRange f _ e ∙ stop out_right_lem OutOfRange f _ g
 
-  pub in_5 : in_right ≡ true → out_right_lem ≡ true → in_open ≡ false → call_entry f k x i o ≡ refuse 5 f
+  pub in_5 : in_right ≡ true → out_right_lem ≡ true → in_open ≡ false → call_entry f k x i o ≡ refuse NotReached f
   unfolding call_entry
-  in_5 e g p = pass in_right 4 f _ e ∙ pass out_right_lem 4 f _ g ∙ stop in_open 5 f _ p
+  in_5 e g p = pass in_right OutOfRange f _ e ∙ pass out_right_lem OutOfRange f _ g ∙ stop in_open NotReached f _ p
 
-  pub out_5 : in_right ≡ true → out_right_lem ≡ true → in_open ≡ true → out_open ≡ false → call_entry f k x i o ≡ refuse 5 f
+  pub out_5 : in_right ≡ true → out_right_lem ≡ true → in_open ≡ true → out_open ≡ false → call_entry f k x i o ≡ refuse NotReached f
   unfolding call_entry
-  out_5 e g p q = pass in_right 4 f _ e ∙ pass out_right_lem 4 f _ g ∙ pass in_open 5 f _ p ∙ stop out_open 5 f _ q
+  out_5 e g p q = pass in_right OutOfRange f _ e ∙ pass out_right_lem OutOfRange f _ g ∙ pass in_open NotReached f _ p ∙ stop out_open NotReached f _ q
 
   pub enter_on : in_right ≡ true → out_right_lem ≡ true → in_open ≡ true → out_open ≡ true → call_entry f k x i o ≡ entered f k x i o
   unfolding call_entry
-  enter_on e g p q = pass in_right 4 f _ e ∙ pass out_right_lem 4 f _ g ∙ pass in_open 5 f _ p ∙ pass out_open 5 f _ q
+  enter_on e g p q = pass in_right OutOfRange f _ e ∙ pass out_right_lem OutOfRange f _ g ∙ pass in_open NotReached f _ p ∙ pass out_open NotReached f _ q
 
 -- entered, as the code leaves things
 pub entered_settles : (s : State) → length s.slots ≡ slot_count → (k : ℕ) (x : Entry) (i o : ℕ) (payload m m' : List ℕ) (y : Running) (c : Change)

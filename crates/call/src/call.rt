@@ -11,7 +11,7 @@ ghost use Rattle.change.specs.Turns.{Acts};
 use crate::places;
 use crate::places::Sought;
 use change::{Change, Turn};
-use events::Answer;
+use events::{Answer, Refusal};
 use fields::Entry;
 use geometry::Geometry;
 use state::State;
@@ -49,16 +49,16 @@ fn call_entry(
     let n = x.input as usize;
     let m = x.output as usize;
     if !in_range(s.pages, input, n) {
-        return change::kept(Answer::Refused(4));
+        return change::kept(Answer::Refused(Refusal::OutOfRange));
     }
     if !in_range(s.pages, output, m) {
-        return change::kept(Answer::Refused(4));
+        return change::kept(Answer::Refused(Refusal::OutOfRange));
     }
     if !on_open(s.pages, from, input, n) {
-        return change::kept(Answer::Refused(5));
+        return change::kept(Answer::Refused(Refusal::NotReached));
     }
     if !on_open(s.pages, to, output, m) {
-        return change::kept(Answer::Refused(5));
+        return change::kept(Answer::Refused(Refusal::NotReached));
     }
     let k = found.k;
     let slot = found.slot;
@@ -91,12 +91,12 @@ pub fn call(
 {
     let found = places::slot_for(s, mark, address);
     if Geometry::SLOTS <= found.k {
-        return change::kept(Answer::Refused(8));
+        return change::kept(Answer::Refused(Refusal::NotFound));
     }
     let slot = found.slot;
     let entry = slot.entry_found(address);
     match entry {
         Some(x) => call_entry(s, from, to, memory, found, x, input, output),
-        None => change::kept(Answer::Refused(8)),
+        None => change::kept(Answer::Refused(Refusal::NotFound)),
     }
 }

@@ -13,6 +13,7 @@ use Rattle.events.specs.declared.Answer.{Answer}
 use Rattle.events.specs.declared.Answer.TheVariants as answer
 use Rattle.events.specs.declared.Event.{Event}
 use Rattle.events.specs.declared.Event.TheVariants.{Register, Unregister, Call, Return, Jump, Read, Write, DeviceRead, DeviceWrite, Extend, PcrRead}
+use Rattle.events.specs.declared.Refusal.TheVariants.{NotWellFormed, NotInThisMode}
 use Rattle.wellformed.specs.WellFormed.{well_formed}
 use Rattle.rules.specs.Plan.{nothing, keep, Plan}
 use Rattle.rules.specs.Tests.{read, write, device}
@@ -31,11 +32,11 @@ kept_comes : {o : Out} {m b : List ℕ} (s : State) (a : Answer) (c : Change) �
 kept_comes {o} {m} {b} s a c q h = subst (λ (z : Change). Comes s z m b o) (sym q) (record { out = h; fits = tt })
 
 -- check 1 refuses
-pub refuses_1 : (s : State) → length s.slots ≡ slot_count → (payload buffer m : List ℕ) (ev : Event) (c : Change) → c ≡ turn_of (answer.Refused 1) Kept → well_formed s (length m) ≡ false
+pub refuses_1 : (s : State) → length s.slots ≡ slot_count → (payload buffer m : List ℕ) (ev : Event) (c : Change) → c ≡ turn_of (answer.Refused NotWellFormed) Kept → well_formed s (length m) ≡ false
     → Comes s c m buffer (step s m ev payload buffer)
 refuses_1 s e payload buffer m ev c q h =
-    kept_comes s (answer.Refused 1) c q
-    (of_refuse s e 1 payload buffer m refl ∙ sym (step_as s m payload buffer ev (step_1 s m payload buffer ev h)))
+    kept_comes s (answer.Refused NotWellFormed) c q
+    (of_refuse s e NotWellFormed payload buffer m refl ∙ sym (step_as s m payload buffer ev (step_1 s m payload buffer ev h)))
 
 -- check 1 passes: what the event's rule comes to is what the step comes to
 pub comes_on : (s : State) (payload buffer m : List ℕ) (ev : Event) {c : Change} {m' b' : List ℕ} → well_formed s (length m) ≡ true
@@ -44,12 +45,12 @@ pub comes_on : (s : State) (payload buffer m : List ℕ) (ev : Event) {c : Chang
 comes_on s payload buffer m ev w r = record { out = r.out ∙ sym (step_on s m payload buffer ev w); fits = r.fits }
 
 -- check 2 refuses
-pub refuses_2 : (s : State) → length s.slots ≡ slot_count → (payload buffer m : List ℕ) (ev : Event) (c : Change) → c ≡ turn_of (answer.Refused 2) Kept → well_formed s (length m) ≡ true
+pub refuses_2 : (s : State) → length s.slots ≡ slot_count → (payload buffer m : List ℕ) (ev : Event) (c : Change) → c ≡ turn_of (answer.Refused NotInThisMode) Kept → well_formed s (length m) ≡ true
     → allowed s.mode ev ≡ false → Comes s c m buffer (step s m ev payload buffer)
 refuses_2 s e payload buffer m ev c q w h =
     comes_on s payload buffer m ev w
-    (kept_comes s (answer.Refused 2) c q
-    (of_refuse s e 2 payload buffer m (rule_2 (face_of s) s.mode (length buffer) (length payload) (read_manifest payload) ev h)))
+    (kept_comes s (answer.Refused NotInThisMode) c q
+    (of_refuse s e NotInThisMode payload buffer m (rule_2 (face_of s) s.mode (length buffer) (length payload) (read_manifest payload) ev h)))
 
 module _ (s : State) (e : length s.slots ≡ slot_count) (payload buffer m : List ℕ) (ev : Event) (h : allowed s.mode ev ≡ true) where
   abbrev Ends : Change → List ℕ → List ℕ → Type 0

@@ -18,6 +18,8 @@ use Rattle.events.specs.declared.Answer.{Answer}
 use Rattle.events.specs.declared.Answer.TheVariants as answer
 use Rattle.events.specs.declared.Event.{Event}
 use Rattle.events.specs.declared.Event.TheVariants.{Register, Unregister, Call, Return, Jump, Read, Write, DeviceRead, DeviceWrite, Extend, PcrRead}
+use Rattle.events.specs.declared.Refusal.{Refusal}
+use Rattle.events.specs.declared.Refusal.TheVariants.{NotWellFormed, NotInThisMode}
 use Rattle.rules.specs.Plan.{Fetch, nothing, Store, keep, Plan, refuse}
 use Rattle.rules.specs.Tests.{read, write, device}
 use Rattle.rules.specs.Decide.{rule_in, decide, legacy_only, secure_only, by_mode, register_rule, unregister_rule, call_rule, return_rule, jump_legacy, jump_secure, read_rule, write_rule, extend_rule, pcr_rule}
@@ -64,7 +66,7 @@ module _ (s : State) (e : length s.slots ≡ slot_count) where
       ∙ ap (λ (z : Plan). act z payload buffer (pcrs_of s) m) (sym w)
 
   -- a refusal
-  pub of_refuse : {q : Plan} (r : ℕ) (payload buffer m : List ℕ) → q ≡ refuse r (face_of s) → out_of (record { answer = answer.Refused r; state = s }) m buffer ≡ act q payload buffer (pcrs_of s) m
+  pub of_refuse : {q : Plan} (r : Refusal) (payload buffer m : List ℕ) → q ≡ refuse r (face_of s) → out_of (record { answer = answer.Refused r; state = s }) m buffer ≡ act q payload buffer (pcrs_of s) m
   of_refuse {q} r payload buffer m w =
       (λ i. record { answer = answer.Refused r; state = sym (state_back s e) i; memory = m; buffer = buffer })
       ∙ ap (λ (z : Plan). act z payload buffer (pcrs_of s) m) (sym w)
@@ -72,14 +74,14 @@ module _ (s : State) (e : length s.slots ≡ slot_count) where
 -- ---- check 1
 
 module _ (s : State) (m payload buffer : List ℕ) (ev : Event) where
-  pub step_1 : well_formed s (length m) ≡ false → plan_of s (length m) (length buffer) payload ev ≡ refuse 1 (face_of s)
+  pub step_1 : well_formed s (length m) ≡ false → plan_of s (length m) (length buffer) payload ev ≡ refuse NotWellFormed (face_of s)
   unfolding decide
-  step_1 h = stop (well_formed s (length m)) 1 (face_of s) _ h
+  step_1 h = stop (well_formed s (length m)) NotWellFormed (face_of s) _ h
 
   pub step_on : well_formed s (length m) ≡ true
       → step s m ev payload buffer ≡ act (rule_in s.mode (face_of s) (length buffer) (length payload) (read_manifest payload) ev) payload buffer (pcrs_of s) m
   unfolding step decide
-  step_on h = ap (λ (z : Plan). act z payload buffer (pcrs_of s) m) (pass (well_formed s (length m)) 1 (face_of s) _ h)
+  step_on h = ap (λ (z : Plan). act z payload buffer (pcrs_of s) m) (pass (well_formed s (length m)) NotWellFormed (face_of s) _ h)
 
   pub step_as : {q : Plan} → plan_of s (length m) (length buffer) payload ev ≡ q → step s m ev payload buffer ≡ act q payload buffer (pcrs_of s) m
   unfolding step
@@ -88,11 +90,11 @@ module _ (s : State) (m payload buffer : List ℕ) (ev : Event) where
 -- ---- check 2
 
 module _ (f : Face) where
-  legacy_no : (m : Mode) (p : Plan) → is_legacy m ≡ false → legacy_only m f p ≡ refuse 2 f
+  legacy_no : (m : Mode) (p : Plan) → is_legacy m ≡ false → legacy_only m f p ≡ refuse NotInThisMode f
   legacy_no Legacy p h = absurd (false≢true (sym h))
   legacy_no (Secure k) p h = refl
 
-  secure_no : (m : Mode) (r : ℕ → Plan) → not (is_legacy m) ≡ false → secure_only m f r ≡ refuse 2 f
+  secure_no : (m : Mode) (r : ℕ → Plan) → not (is_legacy m) ≡ false → secure_only m f r ≡ refuse NotInThisMode f
   secure_no Legacy r h = refl
   secure_no (Secure k) r h = absurd (false≢true (sym h))
 
@@ -104,7 +106,7 @@ module _ (f : Face) where
   secure_on Legacy r h = absurd (false≢true h)
   secure_on (Secure k) r h = refl
 
-  pub rule_2 : (m : Mode) (room size : ℕ) (man : Reading) (ev : Event) → allowed m ev ≡ false → rule_in m f room size man ev ≡ refuse 2 f
+  pub rule_2 : (m : Mode) (room size : ℕ) (man : Reading) (ev : Event) → allowed m ev ≡ false → rule_in m f room size man ev ≡ refuse NotInThisMode f
   unfolding rule_in
   rule_2 m room size man (Register mark) h = legacy_no m _ h
   rule_2 m room size man (Unregister mark k) h = legacy_no m _ h

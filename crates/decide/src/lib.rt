@@ -16,7 +16,7 @@ ghost use Rattle.decide.specs.Looks as Looks;
 
 use change::{Change, kept};
 use enroll::register;
-use events::{Answer, Event};
+use events::{Answer, Event, Refusal};
 use geometry::Geometry;
 use release::{jump, unregister};
 use state::{Mode, State};
@@ -104,14 +104,14 @@ pub fn decided(
     ensures { Allowed.Comes s result memory.new buffer.new (rules.step s memory.old event payload.now buffer.old) }
 {
     if !x.right {
-        return kept(Answer::Refused(1));
+        return kept(Answer::Refused(Refusal::NotWellFormed));
     }
     if memory.len() != Geometry::start_of(s.pages) {
-        return kept(Answer::Refused(1));
+        return kept(Answer::Refused(Refusal::NotWellFormed));
     }
     let mode = s.mode;
     if !modes::allowed(mode, event) {
-        return kept(Answer::Refused(2));
+        return kept(Answer::Refused(Refusal::NotInThisMode));
     }
     dispatch(event, payload, s, x, memory, buffer)
 }

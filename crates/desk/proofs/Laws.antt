@@ -14,6 +14,7 @@ use Rattle.lists.proofs.Parts.{part_sets}
 use Rattle.lists.proofs.Tables.{table_long}
 use Rattle.events.specs.declared.Event.{Event}
 use Rattle.events.specs.declared.Answer.TheVariants as answer
+use Rattle.events.specs.declared.Refusal.TheVariants as refusal
 use Rattle.state.specs.declared.State.{State}
 use Rattle.rules.specs.Act.{Out, step}
 use Rattle.numerals.specs.Hex.{hex_bytes, pair_at}
@@ -66,6 +67,6 @@ module _ (s : State) (m l buffer : List ℕ) (r : Line) (g : r ≡ line_of l) wh
       let k : take n d ≡ payload_of l = ap (λ (x : List ℕ). take n x) f ∙ put_back old (payload_of l) n (said_length r l e n h g) (omega (arith, payload_few l)) in
       q ∙ (ap (λ (x : List ℕ). step s m e x buffer) k ∙ ap (λ (x : Line). heard_as x s m (payload_of l) buffer) (sym h ∙ g))
 
-  pub heard_not : r ≡ Unreadable → record { answer = answer.Refused 11; state = s; memory = m; buffer = buffer } ≡ heard s m l buffer
+  pub heard_not : r ≡ Unreadable → record { answer = answer.Refused refusal.Unreadable; state = s; memory = m; buffer = buffer } ≡ heard s m l buffer
   unfolding heard
   heard_not h = ap (λ (x : Line). heard_as x s m (payload_of l) buffer) (sym h ∙ g)

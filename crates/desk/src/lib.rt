@@ -10,7 +10,7 @@ ghost use Rattle.desk.specs.Heard.{heard};
 ghost use Rattle.desk.specs.Served.{answered_in, unasked, standing_of};
 ghost use Rattle.desk.specs.Session.{Faithful, Thorough};
 
-use events::Answer;
+use events::{Answer, Refusal};
 use lines::Line;
 use state::State;
 use touch::Stepped;
@@ -32,7 +32,7 @@ pub fn hear(
             monitor::step(event, &payload[..length], s, memory, buffer)
         }
         Line::Unreadable => Stepped {
-            answer: Answer::Refused(11),
+            answer: Answer::Refused(Refusal::Unreadable),
             state: s,
         },
     }

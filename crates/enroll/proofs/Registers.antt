@@ -22,6 +22,7 @@ use Rattle.state.specs.Zero.{zero_pcr}
 use Rattle.state.specs.Face.{Face, face_of, pcrs_of, state_of}
 use Rattle.state.specs.Slots.{extended_pcrs}
 use Rattle.state.proofs.Faces.{state_set}
+use Rattle.events.specs.declared.Refusal.TheVariants.{RuleBroken, NotOpen, NoFreeSlot}
 use Rattle.rules.specs.Plan.{refuse}
 use Rattle.rules.specs.Tests.{given, with_card, all_open, free_slot}
 use Rattle.rules.specs.Decide.{register_rule, registered}
@@ -47,21 +48,21 @@ open_runs f x size k h e = record { few = k.bounds.few_runs; fits = λ i l. omeg
 -- ---- the ends of the rule
 
 module _ (f : Face) (mark : ℕ) (m : Reading) where
-  pub register_3 : eqb m.refusal 0 ≡ false → register_rule f mark m ≡ refuse 3 f
+  pub register_3 : eqb m.refusal 0 ≡ false → register_rule f mark m ≡ refuse RuleBroken f
   unfolding register_rule
-  register_3 e = stop (eqb m.refusal 0) 3 f _ e
+  register_3 e = stop (eqb m.refusal 0) RuleBroken f _ e
 
-  pub register_6 : eqb m.refusal 0 ≡ true → all_open f m.fields ≡ false → register_rule f mark m ≡ refuse 6 f
+  pub register_6 : eqb m.refusal 0 ≡ true → all_open f m.fields ≡ false → register_rule f mark m ≡ refuse NotOpen f
   unfolding register_rule
-  register_6 e g = pass (eqb m.refusal 0) 3 f _ e ∙ stop (all_open f m.fields) 6 f _ g
+  register_6 e g = pass (eqb m.refusal 0) RuleBroken f _ e ∙ stop (all_open f m.fields) NotOpen f _ g
 
-  pub register_7 : eqb m.refusal 0 ≡ true → all_open f m.fields ≡ true → ltb (free_slot f) slot_count ≡ false → register_rule f mark m ≡ refuse 7 f
+  pub register_7 : eqb m.refusal 0 ≡ true → all_open f m.fields ≡ true → ltb (free_slot f) slot_count ≡ false → register_rule f mark m ≡ refuse NoFreeSlot f
   unfolding register_rule
-  register_7 e g h = pass (eqb m.refusal 0) 3 f _ e ∙ pass (all_open f m.fields) 6 f _ g ∙ stop (ltb (free_slot f) slot_count) 7 f _ h
+  register_7 e g h = pass (eqb m.refusal 0) RuleBroken f _ e ∙ pass (all_open f m.fields) NotOpen f _ g ∙ stop (ltb (free_slot f) slot_count) NoFreeSlot f _ h
 
   pub register_on : eqb m.refusal 0 ≡ true → all_open f m.fields ≡ true → ltb (free_slot f) slot_count ≡ true → register_rule f mark m ≡ registered f (free_slot f) mark m.fields
   unfolding register_rule
-  register_on e g h = pass (eqb m.refusal 0) 3 f _ e ∙ pass (all_open f m.fields) 6 f _ g ∙ pass (ltb (free_slot f) slot_count) 7 f _ h
+  register_on e g h = pass (eqb m.refusal 0) RuleBroken f _ e ∙ pass (all_open f m.fields) NotOpen f _ g ∙ pass (ltb (free_slot f) slot_count) NoFreeSlot f _ h
 
 -- ---- registered, as the code leaves things
 

@@ -8,7 +8,7 @@ ghost use Rattle.change.specs.Turns.{Settles};
 
 use crate::{free, measure};
 use change::Change;
-use events::Answer;
+use events::{Answer, Refusal};
 use geometry::Geometry;
 use state::State;
 
@@ -18,15 +18,15 @@ pub fn register(s: State, payload: &[u8], memory: &[u8], mark: u64) -> Change
 {
     let reading = manifest::read(payload);
     if reading.refusal != 0 {
-        return change::kept(Answer::Refused(3));
+        return change::kept(Answer::Refused(Refusal::RuleBroken));
     }
     let fields = reading.fields;
     if !free::all_open(s.pages, &s.owner, &fields) {
-        return change::kept(Answer::Refused(6));
+        return change::kept(Answer::Refused(Refusal::NotOpen));
     }
     let k = free::free_slot(s);
     if Geometry::SLOTS <= k {
-        return change::kept(Answer::Refused(7));
+        return change::kept(Answer::Refused(Refusal::NoFreeSlot));
     }
     let digest = measure::measured(memory, &fields);
     change::enrolling(k, mark, fields, digest)

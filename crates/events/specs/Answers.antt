@@ -2,6 +2,7 @@
 use Rattle.std.specs.Prelude.{ℕ, List, [], ◌∷◌}
 use Rattle.events.specs.declared.Answer.{Answer}
 use Rattle.events.specs.declared.Answer.TheVariants.{Done, Slot, Entered, Left, Terminated, Filled, Refused}
+use Rattle.events.specs.Refusals.{number_of}
 
 pub record Told : Type 0 where
   pub number : ℕ
@@ -18,7 +19,7 @@ told_by (Entered s) = told 0 (s ∷ [])
 told_by (Left n) = told 0 (n ∷ [])
 told_by (Terminated s) = told 0 (s ∷ [])
 told_by (Filled n) = told 0 (n ∷ [])
-told_by (Refused r) = told r []
+told_by (Refused r) = told (number_of r) []
 
 -- "An accepted answer of n bytes (reads) fills the first n bytes of the buffer and no others; other answers touch none."
 abbrev pub fills : Answer → ℕ

@@ -21,6 +21,7 @@ use Rattle.state.specs.Face.{Face, card_of, pcrs_in, face_of, pcrs_of, slot_of, 
 use Rattle.state.specs.Slots.{extended_pcrs, extended_slot}
 use Rattle.state.proofs.Faces.{card_at_lem, pcrs_at, state_set}
 use Rattle.events.specs.declared.Answer.TheVariants as answer
+use Rattle.events.specs.declared.Refusal.TheVariants.{OutOfRange, NotReached, NoSuchPcr}
 use Rattle.rules.specs.Plan.{nothing, keep, extend, refuse, still}
 use Rattle.rules.specs.Tests.{kept_as}
 use Rattle.rules.specs.Decide.{source_right, source_reached, extend_rule}
@@ -31,22 +32,22 @@ use Rattle.change.specs.declared.Change.{Change}
 use Rattle.change.specs.Turns.{with_pcr, extends_by, Settles}
 
 module _ (f : Face) (k size i : ℕ) (source : Source) (a n : ℕ) where
-  pub extend_10 : ltb i pcr_count ≡ false → extend_rule f k size i source a n ≡ refuse 10 f
+  pub extend_10 : ltb i pcr_count ≡ false → extend_rule f k size i source a n ≡ refuse NoSuchPcr f
   unfolding extend_rule
-  extend_10 e = stop (ltb i pcr_count) 10 f _ e
+  extend_10 e = stop (ltb i pcr_count) NoSuchPcr f _ e
 
-  pub extend_4 : ltb i pcr_count ≡ true → source_right f source size a n ≡ false → extend_rule f k size i source a n ≡ refuse 4 f
+  pub extend_4 : ltb i pcr_count ≡ true → source_right f source size a n ≡ false → extend_rule f k size i source a n ≡ refuse OutOfRange f
   unfolding extend_rule
-  extend_4 e g = pass (ltb i pcr_count) 10 f _ e ∙ stop (source_right f source size a n) 4 f _ g
+  extend_4 e g = pass (ltb i pcr_count) NoSuchPcr f _ e ∙ stop (source_right f source size a n) OutOfRange f _ g
 
-  pub extend_5 : ltb i pcr_count ≡ true → source_right f source size a n ≡ true → source_reached f k source a n ≡ false → extend_rule f k size i source a n ≡ refuse 5 f
+  pub extend_5 : ltb i pcr_count ≡ true → source_right f source size a n ≡ true → source_reached f k source a n ≡ false → extend_rule f k size i source a n ≡ refuse NotReached f
   unfolding extend_rule
-  extend_5 e g h = pass (ltb i pcr_count) 10 f _ e ∙ pass (source_right f source size a n) 4 f _ g ∙ stop (source_reached f k source a n) 5 f _ h
+  extend_5 e g h = pass (ltb i pcr_count) NoSuchPcr f _ e ∙ pass (source_right f source size a n) OutOfRange f _ g ∙ stop (source_reached f k source a n) NotReached f _ h
 
   pub extend_on : ltb i pcr_count ≡ true → source_right f source size a n ≡ true → source_reached f k source a n ≡ true
       → extend_rule f k size i source a n ≡ still f nothing keep (extend k i source a n) answer.Done
   unfolding extend_rule
-  extend_on e g h = pass (ltb i pcr_count) 10 f _ e ∙ pass (source_right f source size a n) 4 f _ g ∙ pass (source_reached f k source a n) 5 f _ h
+  extend_on e g h = pass (ltb i pcr_count) NoSuchPcr f _ e ∙ pass (source_right f source size a n) OutOfRange f _ g ∙ pass (source_reached f k source a n) NotReached f _ h
 
 -- a source that is right lies in memory, as the code takes it
 pub source_in : (f : Face) (m : List ℕ) (source : Source) (size a n : ℕ) → length m ≡ start_of f.pages → source_right f source size a n ≡ true → InRange m source (kept_as n a) n

@@ -8,7 +8,7 @@ ghost use Rattle.touch.specs.Carried.{Owned};
 ghost use Rattle.change.specs.Turns.{Settles};
 
 use change::Change;
-use events::Answer;
+use events::{Answer, Refusal};
 use geometry::Geometry;
 use memory::Source;
 use state::State;
@@ -55,13 +55,13 @@ pub fn extend<'a>(
     ensures { Settles (extend_rule (face_of s) k (length payload.now) index source address n) payload.now s memory.now result memory.now }
 {
     if Geometry::PCRS <= index {
-        return change::kept(Answer::Refused(10));
+        return change::kept(Answer::Refused(Refusal::NoSuchPcr));
     }
     if !source_right(s, source, payload.len(), address, n) {
-        return change::kept(Answer::Refused(4));
+        return change::kept(Answer::Refused(Refusal::OutOfRange));
     }
     if !source_reached(s, v, k, source, address, n) {
-        return change::kept(Answer::Refused(5));
+        return change::kept(Answer::Refused(Refusal::NotReached));
     }
     let from = switch::kept_as(n, address);
     let part = memory::chosen(payload, memory, source, from, n);

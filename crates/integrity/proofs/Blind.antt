@@ -19,6 +19,8 @@ use Rattle.wellformed.proofs.Runs.{Runs}
 use Rattle.events.specs.declared.Event.{Event}
 use Rattle.events.specs.declared.Answer.{Answer}
 use Rattle.events.specs.declared.Answer.TheVariants as answer
+use Rattle.events.specs.declared.Refusal.{Refusal}
+use Rattle.events.specs.declared.Refusal.TheVariants.{RuleBroken, OutOfRange, NotReached, NotOpen, NoFreeSlot, NotFound, BufferShort, NoSuchPcr}
 use Rattle.rules.specs.Plan.{Fetch, nothing, bytes, pcr, Store, keep, put, move, clean, Seal, same, clear, extend, measure, Plan, guard}
 use Rattle.rules.specs.Tests.{Access, read, device, is_own, may_reach, slot_for}
 use Rattle.rules.specs.Decide.{released, registered, register_rule, unregister_rule, entered, call_entry, call_rule, entry_for, return_rule, jump_legacy, read_rule, write_rule, source_right, source_reached, extend_rule, pcr_rule, decide}
@@ -63,13 +65,13 @@ module _ (f : Face) (r : Right f) (Q : ℕ → Type 0) (hidden : Hidden f Q) whe
   keeping : {p : Plan} → p.fetch ≡ nothing → p.store ≡ keep → p.seal ≡ same → Blind Q p
   keeping x y z = record { fetches = rw x tt; stores = rw y tt; seals = rw z tt }
 
-  guarded : (t : Bool) (n : ℕ) (p : Plan) → (t ≡ true → Blind Q p) → Blind Q (guard t n f p)
+  guarded : (t : Bool) (n : Refusal) (p : Plan) → (t ≡ true → Blind Q p) → Blind Q (guard t n f p)
   guarded t n p h = checked (Blind Q) t n f p (keeping refl refl refl) h
 
   register_blind : (mark : ℕ) (x : Reading) → (x.refusal ≡ 0 → keeps_rules x.fields ≡ true) → Blind Q (register_rule f mark x)
   unfolding register_rule registered
   register_blind mark x rules =
-      guarded _ 3 _ λ a. guarded _ 6 _ λ b. guarded _ 7 _ λ c.
+      guarded _ RuleBroken _ λ a. guarded _ NotOpen _ λ b. guarded _ NoFreeSlot _ λ c.
       record {
         fetches = tt;
         stores = tt;
@@ -84,7 +86,7 @@ module _ (f : Face) (r : Right f) (Q : ℕ → Type 0) (hidden : Hidden f Q) whe
   call_blind : (mark a i o : ℕ) → Blind Q (call_rule f mark a i o)
   unfolding call_rule call_entry entered
   call_blind mark a i o =
-      guarded _ 8 _ λ s. guarded _ 4 _ λ b. guarded _ 4 _ λ c. guarded _ 5 _ λ d. guarded _ 5 _ λ g.
+      guarded _ NotFound _ λ s. guarded _ OutOfRange _ λ b. guarded _ OutOfRange _ λ c. guarded _ NotReached _ λ d. guarded _ NotReached _ λ g.
       record {
         fetches = tt;
         stores = unlooked_off Q f.pages i (entry_for f (slot_for f mark a) a).input (is_open f (page_of i)) b d (λ _ t. hidden.open_no (page_of i) t);
@@ -105,7 +107,7 @@ module _ (f : Face) (r : Right f) (Q : ℕ → Type 0) (hidden : Hidden f Q) whe
   read_blind : (m : Mode) (access : Access) (room a n : ℕ) → (page_of a < f.pages → may_reach m f access (page_of a) ≡ true → Q (page_of a) → ⊥) → Blind Q (read_rule m f access room a n)
   unfolding read_rule
   read_blind m access room a n h =
-      guarded _ 4 _ λ b. guarded _ 5 _ λ c. guarded _ 9 _ λ d.
+      guarded _ OutOfRange _ λ b. guarded _ NotReached _ λ c. guarded _ BufferShort _ λ d.
       record { fetches = range_off Q f.pages a n b (h (range f.pages a n b).below c); stores = tt; seals = tt }
 
   source_off : (k size : ℕ) (source : Source) (a n : ℕ) → k < slot_count → source_right f source size a n ≡ true → source_reached f k source a n ≡ true → SourceOff Q source a n
@@ -121,20 +123,20 @@ module _ (f : Face) (r : Right f) (Q : ℕ → Type 0) (hidden : Hidden f Q) whe
   by_rules room size x rules =
       record {
         registers = λ mark q. register_blind mark x rules;
-        unregisters = λ mark k q. guarded _ 8 _ λ t. released_blind k answer.Done;
+        unregisters = λ mark k q. guarded _ NotFound _ λ t. released_blind k answer.Done;
         calls = λ mark a i o q. call_blind mark a i o;
         returns = λ k q. return_blind k (running f r k q);
-        jumps = λ a q. guarded _ 4 _ λ b. guarded _ 5 _ λ c. keeping refl refl refl;
+        jumps = λ a q. guarded _ OutOfRange _ λ b. guarded _ NotReached _ λ c. keeping refl refl refl;
         stays = λ a k q. keeping refl refl refl;
         leaves = λ a k q. released_blind k (answer.Terminated k);
         reads = λ a n. read_blind _ read room a n (self_no f.mode refl (page_of a));
-        writes = λ a. guarded _ 4 _ λ b. guarded _ 5 _ λ c. record { fetches = tt; stores = tt; seals = tt };
+        writes = λ a. guarded _ OutOfRange _ λ b. guarded _ NotReached _ λ c. record { fetches = tt; stores = tt; seals = tt };
         device_reads = λ a n. read_blind _ device room a n (λ l t. hidden.open_no (page_of a) (device_open f f.mode (page_of a) t));
-        device_writes = λ a. guarded _ 4 _ λ b. guarded _ 5 _ λ c. record { fetches = tt; stores = tt; seals = tt };
-        extends = λ i source a n k q. guarded _ 10 _ λ b. guarded _ 4 _ λ c. guarded _ 5 _ λ d.
+        device_writes = λ a. guarded _ OutOfRange _ λ b. guarded _ NotReached _ λ c. record { fetches = tt; stores = tt; seals = tt };
+        extends = λ i source a n k q. guarded _ NoSuchPcr _ λ b. guarded _ OutOfRange _ λ c. guarded _ NotReached _ λ d.
             record { fetches = tt; stores = tt; seals = source_off k size source a n (running f r k q).below c d };
-        pcr_reads = λ i k q. guarded _ 10 _ λ b. guarded _ 9 _ λ c. record { fetches = tt; stores = tt; seals = tt };
+        pcr_reads = λ i k q. guarded _ NoSuchPcr _ λ b. guarded _ BufferShort _ λ c. record { fetches = tt; stores = tt; seals = tt };
       }
 
   pub decide_blind : (ok : Bool) (room size : ℕ) (x : Reading) → (x.refusal ≡ 0 → keeps_rules x.fields ≡ true) → (e : Event) → Blind Q (decide f ok room size x e)
-  decide_blind ok room size x rules = by_rule f room size x (λ e m p. Blind Q p) (λ e n a b. keeping refl refl refl) ok (λ t. by_rules room size x rules)
+  decide_blind ok room size x rules = by_rule f room size x (λ e m p. Blind Q p) (λ e n a. keeping refl refl refl) ok (λ t. by_rules room size x rules)

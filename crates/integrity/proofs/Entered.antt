@@ -25,6 +25,8 @@ use Rattle.wellformed.specs.WellFormed.{well_formed}
 use Rattle.events.specs.declared.Event.{Event}
 use Rattle.events.specs.declared.Event.TheVariants.{Call, Jump}
 use Rattle.events.specs.declared.Answer.TheVariants as answer
+use Rattle.events.specs.declared.Refusal.{Refusal}
+use Rattle.events.specs.declared.Refusal.TheVariants.{NotWellFormed, RuleBroken, OutOfRange, NotReached, NotOpen, NoFreeSlot, NotFound, BufferShort, NoSuchPcr}
 use Rattle.rules.specs.Plan.{nothing, keep, same, Plan, guard, still}
 use Rattle.rules.specs.Tests.{is_own, own_code, is_entry_at, entry_of, slot_for, with_card}
 use Rattle.rules.specs.Decide.{released, registered, register_rule, unregister_rule, entered, call_entry, call_rule, return_rule, jump_legacy, jump_secure, read_rule, write_rule, extend_rule, pcr_rule, rule_in, decide}
@@ -52,7 +54,7 @@ module _ (f : Face) where
   abbrev Before : Event → Plan → Type 0
   Before e p = (k : ℕ) → p.next.mode ≡ Secure k → (f.mode ≡ Secure k) ⊎ Calls f k e
 
-  guarded : {e : Event} (t : Bool) (n : ℕ) (p : Plan) → (t ≡ true → Before e p) → Before e (guard t n f p)
+  guarded : {e : Event} (t : Bool) (n : Refusal) (p : Plan) → (t ≡ true → Before e p) → Before e (guard t n f p)
   guarded {e} t n p h = checked (Before e) t n f p (λ k q. inl q) h
 
   never : {A : Type 0} (k : ℕ) → Legacy ≡ Secure k → A
@@ -61,7 +63,7 @@ module _ (f : Face) where
   call_before : (mark a i o : ℕ) → Before (Call mark a i o) (call_rule f mark a i o)
   unfolding call_rule call_entry entered
   call_before mark a i o =
-      guarded _ 8 _ λ s. guarded _ 4 _ λ b. guarded _ 4 _ λ c. guarded _ 5 _ λ d. guarded _ 5 _ λ g.
+      guarded _ NotFound _ λ s. guarded _ OutOfRange _ λ b. guarded _ OutOfRange _ λ c. guarded _ NotReached _ λ d. guarded _ NotReached _ λ g.
       λ k q. let e : slot_for f mark a ≡ k = cc in
       inr (record { mark = mark; address = a; input = i; output = o; event = refl; can = subst (λ (j : ℕ). Callable f mark a j) e (callable f mark a s) })
 
@@ -69,23 +71,23 @@ module _ (f : Face) where
   unfolding register_rule registered with_card unregister_rule released return_rule jump_legacy read_rule write_rule extend_rule pcr_rule
   by_rules room size x =
       record {
-        registers = λ mark _. guarded _ 3 _ λ a. guarded _ 6 _ λ b. guarded _ 7 _ λ c k q. inl q;
-        unregisters = λ mark j _. guarded _ 8 _ λ t k q. never k q;
+        registers = λ mark _. guarded _ RuleBroken _ λ a. guarded _ NotOpen _ λ b. guarded _ NoFreeSlot _ λ c k q. inl q;
+        unregisters = λ mark j _. guarded _ NotFound _ λ t k q. never k q;
         calls = λ mark a i o _. call_before mark a i o;
         returns = λ j _ k q. never k q;
-        jumps = λ a _. guarded _ 4 _ λ b. guarded _ 5 _ λ c k q. inl q;
+        jumps = λ a _. guarded _ OutOfRange _ λ b. guarded _ NotReached _ λ c k q. inl q;
         stays = λ a j _ k q. inl q;
         leaves = λ a j _ k q. never k q;
-        reads = λ a n. guarded _ 4 _ λ b. guarded _ 5 _ λ c. guarded _ 9 _ λ d k q. inl q;
-        writes = λ a. guarded _ 4 _ λ b. guarded _ 5 _ λ c k q. inl q;
-        device_reads = λ a n. guarded _ 4 _ λ b. guarded _ 5 _ λ c. guarded _ 9 _ λ d k q. inl q;
-        device_writes = λ a. guarded _ 4 _ λ b. guarded _ 5 _ λ c k q. inl q;
-        extends = λ i source a n j _. guarded _ 10 _ λ b. guarded _ 4 _ λ c. guarded _ 5 _ λ d k q. inl q;
-        pcr_reads = λ i j _. guarded _ 10 _ λ b. guarded _ 9 _ λ c k q. inl q;
+        reads = λ a n. guarded _ OutOfRange _ λ b. guarded _ NotReached _ λ c. guarded _ BufferShort _ λ d k q. inl q;
+        writes = λ a. guarded _ OutOfRange _ λ b. guarded _ NotReached _ λ c k q. inl q;
+        device_reads = λ a n. guarded _ OutOfRange _ λ b. guarded _ NotReached _ λ c. guarded _ BufferShort _ λ d k q. inl q;
+        device_writes = λ a. guarded _ OutOfRange _ λ b. guarded _ NotReached _ λ c k q. inl q;
+        extends = λ i source a n j _. guarded _ NoSuchPcr _ λ b. guarded _ OutOfRange _ λ c. guarded _ NotReached _ λ d k q. inl q;
+        pcr_reads = λ i j _. guarded _ NoSuchPcr _ λ b. guarded _ BufferShort _ λ c k q. inl q;
       }
 
   decide_before : (ok : Bool) (room size : ℕ) (x : Reading) (e : Event) → Before e (decide f ok room size x e)
-  decide_before ok room size x = by_rule f room size x (λ e m p. Before e p) (λ e n a b k q. inl q) ok (λ t. by_rules room size x)
+  decide_before ok room size x = by_rule f room size x (λ e m p. Before e p) (λ e n a k q. inl q) ok (λ t. by_rules room size x)
 
 enters : (s : State) (k : ℕ) (e : Event) → Calls (face_of s) k e → Enters s k e
 enters s k e x =
@@ -122,7 +124,7 @@ stay_done f k a h = go (own_code f k (page_of a)) refl h
     go true e h = e
     go false e h = let z : ◌≡◌ {A = ℕ} 0 1 = cc in absurd (omega arith)
 
-jump_done : (f : Face) (m : Mode) (ok : Bool) (room size : ℕ) (x : Reading) (k a : ℕ) → m ≡ Secure k → (guard ok 1 f (rule_in m f room size x (Jump a))).answer ≡ answer.Done → own_code f k (page_of a) ≡ true
+jump_done : (f : Face) (m : Mode) (ok : Bool) (room size : ℕ) (x : Reading) (k a : ℕ) → m ≡ Secure k → (guard ok NotWellFormed f (rule_in m f room size x (Jump a))).answer ≡ answer.Done → own_code f k (page_of a) ≡ true
 unfolding guard rule_in
 jump_done f Legacy ok room size x k a e h = let z : ◌≡◌ {A = ℕ} 0 1 = cc in absurd (omega arith)
 jump_done f (Secure j) true room size x k a e h = let q : j ≡ k = cc in subst (λ (i : ℕ). own_code f i (page_of a) ≡ true) q (stay_done f j a h)

@@ -21,6 +21,8 @@ use Rattle.wellformed.proofs.Runs.{Runs, out_range, out_open}
 use Rattle.events.specs.declared.Event.{Event}
 use Rattle.events.specs.declared.Answer.{Answer}
 use Rattle.events.specs.declared.Answer.TheVariants as answer
+use Rattle.events.specs.declared.Refusal.{Refusal}
+use Rattle.events.specs.declared.Refusal.TheVariants.{RuleBroken, OutOfRange, NotReached, NotOpen, NoFreeSlot, NotFound, BufferShort, NoSuchPcr}
 use Rattle.rules.specs.Plan.{Plan, guard}
 use Rattle.rules.specs.Tests.{Access, write, device, may_reach, entry_of, slot_for}
 use Rattle.rules.specs.Decide.{released, registered, register_rule, unregister_rule, entered, call_entry, call_rule, entry_for, return_rule, jump_legacy, read_rule, write_rule, extend_rule, pcr_rule, decide}
@@ -49,7 +51,7 @@ module _ (f : Face) (r : Right f) (Q : ℕ → Type 0) (H : Face → Type 0) (sh
   abbrev Spared : Plan → Type 0
   Spared p = H p.next → Spares Q size p.store
 
-  guarded : (t : Bool) (n : ℕ) (p : Plan) → (t ≡ true → Spared p) → Spared (guard t n f p)
+  guarded : (t : Bool) (n : Refusal) (p : Plan) → (t ≡ true → Spared p) → Spared (guard t n f p)
   guarded t n p h = checked Spared t n f p (λ _. tt) h
 
   released_off : (k : ℕ) (a : Answer) → k < slot_count → Spared (released f k a)
@@ -59,7 +61,7 @@ module _ (f : Face) (r : Right f) (Q : ℕ → Type 0) (H : Face → Type 0) (sh
   call_off : (mark a i o : ℕ) → Spared (call_rule f mark a i o)
   unfolding call_rule call_entry entered
   call_off mark a i o =
-      guarded _ 8 _ λ s. guarded _ 4 _ λ b. guarded _ 4 _ λ c. guarded _ 5 _ λ d. guarded _ 5 _ λ g. λ _ j l u q.
+      guarded _ NotFound _ λ s. guarded _ OutOfRange _ λ b. guarded _ OutOfRange _ λ c. guarded _ NotReached _ λ d. guarded _ NotReached _ λ g. λ _ j l u q.
       let k = slot_for f mark a in
       let x = callable f mark a s in
       let n = (entry_short f r k (entry_of (card_at f k).fields a) x.below x.registered x.used).input in
@@ -76,7 +78,7 @@ module _ (f : Face) (r : Right f) (Q : ℕ → Type 0) (H : Face → Type 0) (sh
 
   write_off : (m : Mode) (access : Access) (a : ℕ) → (page_of a < f.pages → may_reach m f access (page_of a) ≡ true → Q (page_of a) → ⊥) → Spared (write_rule m f access a size)
   unfolding write_rule
-  write_off m access a h = guarded _ 4 _ λ b. guarded _ 5 _ λ c. λ _. range_off Q f.pages a size b (h (range f.pages a size b).below c)
+  write_off m access a h = guarded _ OutOfRange _ λ b. guarded _ NotReached _ λ c. λ _. range_off Q f.pages a size b (h (range f.pages a size b).below c)
 
   -- who may write a page by itself
   self_no : (m : Mode) → f.mode ≡ m → (p : ℕ) → p < f.pages → may_reach m f write p ≡ true → Q p → ⊥
@@ -87,20 +89,20 @@ module _ (f : Face) (r : Right f) (Q : ℕ → Type 0) (H : Face → Type 0) (sh
   unfolding register_rule registered unregister_rule jump_legacy read_rule extend_rule pcr_rule
   by_rules room x =
       record {
-        registers = λ mark q. guarded _ 3 _ λ a. guarded _ 6 _ λ b. guarded _ 7 _ λ c _. tt;
-        unregisters = λ mark k q. guarded _ 8 _ λ t. released_off k answer.Done (ltb-true k slot_count (and_l (ltb k slot_count) _ t));
+        registers = λ mark q. guarded _ RuleBroken _ λ a. guarded _ NotOpen _ λ b. guarded _ NoFreeSlot _ λ c _. tt;
+        unregisters = λ mark k q. guarded _ NotFound _ λ t. released_off k answer.Done (ltb-true k slot_count (and_l (ltb k slot_count) _ t));
         calls = λ mark a i o q. call_off mark a i o;
         returns = λ k q. return_off k (running f r k q);
-        jumps = λ a q. guarded _ 4 _ λ b. guarded _ 5 _ λ c _. tt;
+        jumps = λ a q. guarded _ OutOfRange _ λ b. guarded _ NotReached _ λ c _. tt;
         stays = λ a k q _. tt;
         leaves = λ a k q. released_off k (answer.Terminated k) (running f r k q).below;
-        reads = λ a n. guarded _ 4 _ λ b. guarded _ 5 _ λ c. guarded _ 9 _ λ d _. tt;
+        reads = λ a n. guarded _ OutOfRange _ λ b. guarded _ NotReached _ λ c. guarded _ BufferShort _ λ d _. tt;
         writes = λ a. write_off _ write a (self_no f.mode refl (page_of a));
-        device_reads = λ a n. guarded _ 4 _ λ b. guarded _ 5 _ λ c. guarded _ 9 _ λ d _. tt;
+        device_reads = λ a n. guarded _ OutOfRange _ λ b. guarded _ NotReached _ λ c. guarded _ BufferShort _ λ d _. tt;
         device_writes = λ a. write_off _ device a (λ l t. shut.open_no (page_of a) (device_open f f.mode (page_of a) t));
-        extends = λ i source a n k q. guarded _ 10 _ λ b. guarded _ 4 _ λ c. guarded _ 5 _ λ d _. tt;
-        pcr_reads = λ i k q. guarded _ 10 _ λ b. guarded _ 9 _ λ c _. tt;
+        extends = λ i source a n k q. guarded _ NoSuchPcr _ λ b. guarded _ OutOfRange _ λ c. guarded _ NotReached _ λ d _. tt;
+        pcr_reads = λ i k q. guarded _ NoSuchPcr _ λ b. guarded _ BufferShort _ λ c _. tt;
       }
 
   pub decide_off : (ok : Bool) (room : ℕ) (x : Reading) (e : Event) → H (decide f ok room size x e).next → Spares Q size (decide f ok room size x e).store
-  decide_off ok room x = by_rule f room size x (λ e m p. Spared p) (λ e n a b _. tt) ok (λ t. by_rules room x)
+  decide_off ok room x = by_rule f room size x (λ e m p. Spared p) (λ e n a _. tt) ok (λ t. by_rules room x)

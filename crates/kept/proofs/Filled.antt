@@ -78,7 +78,7 @@ module _ (s : State) (shape : StateShape s) (m : List ℕ) (w : well_formed s (l
   wanted_long (Secure k) r (PcrRead i) h = pcr_long s shape k i (secure_hold (face_of s) k r).below h
 
   filled : (e : Event) (buffer payload : List ℕ) (p : Plan) → Accepts p.answer → Outcome (face_of s) s.mode (length buffer) e p → Fills s m e buffer (act p payload buffer (pcrs_of s) m)
-  filled e buffer payload p t (refused r a b q) = absurd (rw q at t)
+  filled e buffer payload p t (refused r a q) = absurd (rw q at t)
   filled e buffer payload p t (accepted _ n l q h) =
       let long = wanted_long s.mode (right_of (face_of s) (state_face s (well_state s (length m) w))).mode e h in
       record {

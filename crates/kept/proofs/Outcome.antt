@@ -2,10 +2,9 @@
 use Prim.Native.Nat.{ℕ, ◌≤◌, ◌<◌}
 use native.Mathlib.Omega.{arith}
 use mathlib.Core.Path.{◌≡◌, refl}
-use mathlib.Core.Bool.{Bool, true, false, ◌&&◌}
+use mathlib.Core.Bool.{Bool, true, false}
 use lib.Dec.{leb}
 use borrow.Author.Tests.{leb-true, ltb-true}
-use Rattle.lists.proofs.Logic.{and_l, and_r}
 use Rattle.geometry.specs.Geometry.{pcr_count, is_range, digest_size}
 use Rattle.manifest.specs.declared.Reading.{Reading}
 use Rattle.state.specs.declared.Mode.{Mode}
@@ -15,6 +14,9 @@ use Rattle.events.specs.declared.Event.{Event}
 use Rattle.events.specs.declared.Event.TheVariants.{Register, Unregister, Call, Return, Jump, Read, Write, DeviceRead, DeviceWrite, Extend, PcrRead}
 use Rattle.events.specs.declared.Answer.{Answer}
 use Rattle.events.specs.declared.Answer.TheVariants as answer
+use Rattle.events.specs.declared.Refusal.{Refusal}
+use Rattle.events.specs.declared.Refusal.TheVariants.{RuleBroken, OutOfRange, NotReached, NotOpen, NoFreeSlot, NotFound, BufferShort, NoSuchPcr}
+use Rattle.events.specs.Refusals.{number_of}
 use Rattle.events.specs.Answers.{told_by, fills}
 use Rattle.rules.specs.Plan.{Fetch, nothing, bytes, pcr, Plan, refuse, guard}
 use Rattle.rules.specs.Decide.{released, registered, register_rule, unregister_rule, entered, call_entry, call_rule, return_rule, jump_legacy, read_rule, write_rule, extend_rule, pcr_rule, decide}
@@ -78,35 +80,35 @@ accepts_zero (answer.Filled n) h = refl
 accepts_zero (answer.Refused r) h = absurd h
 
 pub data Outcome (f : Face) (m : Mode) (room : ℕ) (e : Event) (p : Plan) : Type 0 where
-  refused : (r : ℕ) → 1 ≤ r → r ≤ 10 → p ≡ refuse r f → Outcome f m room e p
+  refused : (r : Refusal) → number_of r ≤ 10 → p ≡ refuse r f → Outcome f m room e p
   accepted : Accepts p.answer → fills p.answer ≡ asked e → asked e ≤ room → p.fetch ≡ fetch_for m e → Had f m e → Outcome f m room e p
 
 module _ (f : Face) (room : ℕ) where
-  guarded : {m : Mode} {e : Event} (t : Bool) (r : ℕ) (p : Plan) → leb 1 r && leb r 10 ≡ true → (t ≡ true → Outcome f m room e p) → Outcome f m room e (guard t r f p)
-  guarded {m} {e} t r p a h = checked (Outcome f m room e) t r f p (refused r (leb-true 1 r (and_l (leb 1 r) _ a)) (leb-true r 10 (and_r (leb 1 r) _ a)) refl) h
+  guarded : {m : Mode} {e : Event} (t : Bool) (r : Refusal) (p : Plan) → leb (number_of r) 10 ≡ true → (t ≡ true → Outcome f m room e p) → Outcome f m room e (guard t r f p)
+  guarded {m} {e} t r p a h = checked (Outcome f m room e) t r f p (refused r (leb-true (number_of r) 10 a) refl) h
 
   by_rules : (size : ℕ) (x : Reading) → ByRule f room size x (λ e m p. Outcome f m room e p)
   unfolding register_rule registered unregister_rule released call_rule call_entry entered return_rule jump_legacy read_rule write_rule extend_rule pcr_rule
   by_rules size x =
       record {
-        registers = λ mark q. guarded _ 3 _ refl λ a. guarded _ 6 _ refl λ b. guarded _ 7 _ refl λ c. accepted tt refl (omega arith) refl tt;
-        unregisters = λ mark k q. guarded _ 8 _ refl λ a. accepted tt refl (omega arith) refl tt;
-        calls = λ mark a i o q. guarded _ 8 _ refl λ b. guarded _ 4 _ refl λ c. guarded _ 4 _ refl λ d. guarded _ 5 _ refl λ g. guarded _ 5 _ refl λ h.
+        registers = λ mark q. guarded _ RuleBroken _ refl λ a. guarded _ NotOpen _ refl λ b. guarded _ NoFreeSlot _ refl λ c. accepted tt refl (omega arith) refl tt;
+        unregisters = λ mark k q. guarded _ NotFound _ refl λ a. accepted tt refl (omega arith) refl tt;
+        calls = λ mark a i o q. guarded _ NotFound _ refl λ b. guarded _ OutOfRange _ refl λ c. guarded _ OutOfRange _ refl λ d. guarded _ NotReached _ refl λ g. guarded _ NotReached _ refl λ h.
             accepted tt refl (omega arith) refl tt;
         returns = λ k q. accepted tt refl (omega arith) refl tt;
-        jumps = λ a q. guarded _ 4 _ refl λ b. guarded _ 5 _ refl λ c. accepted tt refl (omega arith) refl tt;
+        jumps = λ a q. guarded _ OutOfRange _ refl λ b. guarded _ NotReached _ refl λ c. accepted tt refl (omega arith) refl tt;
         stays = λ a k q. accepted tt refl (omega arith) refl tt;
         leaves = λ a k q. accepted tt refl (omega arith) refl tt;
-        reads = λ a n. guarded _ 4 _ refl λ b. guarded _ 5 _ refl λ c. guarded _ 9 _ refl λ d. accepted tt refl (leb-true n room d) refl b;
-        writes = λ a. guarded _ 4 _ refl λ b. guarded _ 5 _ refl λ c. accepted tt refl (omega arith) refl tt;
-        device_reads = λ a n. guarded _ 4 _ refl λ b. guarded _ 5 _ refl λ c. guarded _ 9 _ refl λ d. accepted tt refl (leb-true n room d) refl b;
-        device_writes = λ a. guarded _ 4 _ refl λ b. guarded _ 5 _ refl λ c. accepted tt refl (omega arith) refl tt;
-        extends = λ i source a n k q. guarded _ 10 _ refl λ b. guarded _ 4 _ refl λ c. guarded _ 5 _ refl λ d. accepted tt refl (omega arith) refl tt;
-        pcr_reads = λ i k q. guarded _ 10 _ refl λ b. guarded _ 9 _ refl λ c. accepted tt refl (leb-true digest_size room c) refl (ltb-true i pcr_count b);
+        reads = λ a n. guarded _ OutOfRange _ refl λ b. guarded _ NotReached _ refl λ c. guarded _ BufferShort _ refl λ d. accepted tt refl (leb-true n room d) refl b;
+        writes = λ a. guarded _ OutOfRange _ refl λ b. guarded _ NotReached _ refl λ c. accepted tt refl (omega arith) refl tt;
+        device_reads = λ a n. guarded _ OutOfRange _ refl λ b. guarded _ NotReached _ refl λ c. guarded _ BufferShort _ refl λ d. accepted tt refl (leb-true n room d) refl b;
+        device_writes = λ a. guarded _ OutOfRange _ refl λ b. guarded _ NotReached _ refl λ c. accepted tt refl (omega arith) refl tt;
+        extends = λ i source a n k q. guarded _ NoSuchPcr _ refl λ b. guarded _ OutOfRange _ refl λ c. guarded _ NotReached _ refl λ d. accepted tt refl (omega arith) refl tt;
+        pcr_reads = λ i k q. guarded _ NoSuchPcr _ refl λ b. guarded _ BufferShort _ refl λ c. accepted tt refl (leb-true digest_size room c) refl (ltb-true i pcr_count b);
       }
 
   pub outcome : (ok : Bool) (size : ℕ) (x : Reading) (e : Event) → Outcome f f.mode room e (decide f ok room size x e)
-  outcome ok size x = by_rule f room size x (λ e m p. Outcome f m room e p) (λ e n a b. refused n a b refl) ok (λ t. by_rules size x)
+  outcome ok size x = by_rule f room size x (λ e m p. Outcome f m room e p) (λ e n a. refused n a refl) ok (λ t. by_rules size x)
 
 -- only where check 1 passed
 pub passed : (f : Face) (ok : Bool) (room size : ℕ) (x : Reading) (e : Event) → Accepts (decide f ok room size x e).answer → ok ≡ true

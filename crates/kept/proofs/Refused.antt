@@ -13,7 +13,9 @@ use Rattle.state.proofs.Faces.{state_back}
 use Rattle.wellformed.specs.WellFormed.{well_formed}
 use Rattle.events.specs.declared.Event.{Event}
 use Rattle.events.specs.declared.Answer.TheVariants as answer
+use Rattle.events.specs.Refusals.{number_of}
 use Rattle.events.specs.Answers.{told_by}
+use Rattle.events.proofs.Numbers.{named}
 use Rattle.rules.specs.Plan.{Plan}
 use Rattle.rules.specs.Act.{act, plan_of, step}
 use Rattle.kept.specs.Refusals.{AsGiven, RefusalsKeep, RefusalsNamed}
@@ -25,7 +27,7 @@ planned s size payload room e = outcome (face_of s) room (well_formed s size) (l
 
 -- a plan that tells 0 is accepted
 pub zero_accepts : {f : Face} {m : Mode} {room : ℕ} {e : Event} (p : Plan) → Outcome f m room e p → (told_by p.answer).number ≡ 0 → Accepts p.answer
-zero_accepts p (refused r a b q) h = let z : r ≡ 0 = rw q at h in absurd (omega arith)
+zero_accepts p (refused r a q) h = let z : number_of r ≡ 0 = rw q at h in absurd (omega (arith, named r))
 zero_accepts p (accepted t _ _ _ _) h = t
 
 pub refusals_keep : RefusalsKeep
@@ -33,16 +35,16 @@ unfolding step
 refusals_keep s m e payload buffer l h = go (plan_of s (length m) (length buffer) payload e) h (planned s (length m) payload (length buffer) e)
   where
     go : (p : Plan) → (told_by p.answer).number ≢ 0 → Outcome (face_of s) s.mode (length buffer) e p → AsGiven s m buffer (act p payload buffer (pcrs_of s) m)
-    go p h (refused r a b q) = rw q (record { state = state_back s l; memory = refl; buffer = refl })
+    go p h (refused r a q) = rw q (record { state = state_back s l; memory = refl; buffer = refl })
     go p h (accepted n _ _ _ _) = absurd (h (accepts_zero p.answer n))
 
 pub refusals_named : RefusalsNamed
 unfolding step
 refusals_named s m e payload buffer r h = go (plan_of s (length m) (length buffer) payload e) h (planned s (length m) payload (length buffer) e)
   where
-    go : (p : Plan) → p.answer ≡ answer.Refused r → Outcome (face_of s) s.mode (length buffer) e p → (1 ≤ r) × (r ≤ 10)
-    go p h (refused k a b q) =
+    go : (p : Plan) → p.answer ≡ answer.Refused r → Outcome (face_of s) s.mode (length buffer) e p → (1 ≤ number_of r) × (number_of r ≤ 10)
+    go p h (refused k a q) =
         let z : p.answer ≡ answer.Refused k = rw q in
-        let w : k ≡ r = cc in
-        (omega arith, omega arith)
+        let w : number_of k ≡ number_of r = cc in
+        (named r, omega arith)
     go p h (accepted n _ _ _ _) = absurd (rw h at n)

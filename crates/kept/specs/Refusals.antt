@@ -4,6 +4,8 @@ use Rattle.geometry.specs.Geometry.{slot_count}
 use Rattle.state.specs.declared.State.{State}
 use Rattle.events.specs.declared.Event.{Event}
 use Rattle.events.specs.declared.Answer.TheVariants as answer
+use Rattle.events.specs.declared.Refusal.{Refusal}
+use Rattle.events.specs.Refusals.{number_of}
 use Rattle.events.specs.Answers.{told_by}
 use Rattle.rules.specs.Act.{Out, step}
 
@@ -23,4 +25,5 @@ RefusalsKeep =
 -- An event's answer that refuses has a number from 1 to 10. So 0 is told of accepted events alone.
 abbrev pub RefusalsNamed : Type 0
 RefusalsNamed =
-    (s : State) (m : List ℕ) (e : Event) (payload buffer : List ℕ) (r : ℕ) → (step s m e payload buffer).answer ≡ answer.Refused r → (1 ≤ r) × (r ≤ 10)
+    (s : State) (m : List ℕ) (e : Event) (payload buffer : List ℕ) (r : Refusal)
+    → (step s m e payload buffer).answer ≡ answer.Refused r → (1 ≤ number_of r) × (number_of r ≤ 10)

@@ -26,6 +26,8 @@ use Rattle.wellformed.proofs.Zeros.{zero_pcrs_lem}
 use Rattle.events.specs.declared.Event.{Event}
 use Rattle.events.specs.declared.Answer.{Answer}
 use Rattle.events.specs.declared.Answer.TheVariants as answer
+use Rattle.events.specs.declared.Refusal.{Refusal}
+use Rattle.events.specs.declared.Refusal.TheVariants.{RuleBroken, OutOfRange, NotReached, NotOpen, NoFreeSlot, NotFound, BufferShort, NoSuchPcr}
 use Rattle.rules.specs.Plan.{Fetch, Store, Seal, same, clear, extend, measure, Plan, refuse, guard, still}
 use Rattle.rules.specs.Tests.{entry_of, slot_for, free_at, free_slot, with_card}
 use Rattle.rules.specs.Decide.{released, registered, register_rule, unregister_rule, entered, call_entry, call_rule, return_rule, jump_legacy, read_rule, write_rule, extend_rule, pcr_rule, decide}
@@ -82,10 +84,10 @@ seal_long (measure k pages) payload m pcrs = length-set pcrs k _
 -- ---- the rules
 
 module _ (f : Face) (r : Right f) (eight : length f.cards ≡ slot_count) where
-  refuse_good : (n : ℕ) → Good f (refuse n f)
+  refuse_good : (n : Refusal) → Good f (refuse n f)
   refuse_good n = record { right = r; pages = refl; kept = refl; long = refl; seals = λ k. refl; cards = λ j u v. refl }
 
-  guard_good : (t : Bool) (n : ℕ) (p : Plan) → (t ≡ true → Good f p) → Good f (guard t n f p)
+  guard_good : (t : Bool) (n : Refusal) (p : Plan) → (t ≡ true → Good f p) → Good f (guard t n f p)
   guard_good t n p h = checked (Good f) t n f p (refuse_good n) h
 
   still_good : (x : Fetch) (y : Store) (z : Seal) (a : Answer) → Fits f f z → Good f (still f x y z a)
@@ -94,7 +96,7 @@ module _ (f : Face) (r : Right f) (eight : length f.cards ≡ slot_count) where
   register_good : (mark : ℕ) (x : Reading) → (x.refusal ≡ 0 → keeps_rules x.fields ≡ true) → f.mode ≡ Legacy → Good f (register_rule f mark x)
   unfolding register_rule registered free_slot with_card
   register_good mark x rules e =
-      guard_good _ 3 _ λ a. guard_good _ 6 _ λ b. guard_good _ 7 _ λ c.
+      guard_good _ RuleBroken _ λ a. guard_good _ NotOpen _ λ b. guard_good _ NoFreeSlot _ λ c.
       let k = free_slot f in
       let l : k < slot_count = ltb-true k slot_count c in
       let new : Card = record { registered = true; mark = mark; fields = x.fields } in
@@ -123,7 +125,7 @@ module _ (f : Face) (r : Right f) (eight : length f.cards ≡ slot_count) where
   call_good : (mark a i o : ℕ) → Good f (call_rule f mark a i o)
   unfolding call_rule call_entry entered
   call_good mark a i o =
-      guard_good _ 8 _ λ s. guard_good _ 4 _ λ b. guard_good _ 4 _ λ c. guard_good _ 5 _ λ d. guard_good _ 5 _ λ g.
+      guard_good _ NotFound _ λ s. guard_good _ OutOfRange _ λ b. guard_good _ OutOfRange _ λ c. guard_good _ NotReached _ λ d. guard_good _ NotReached _ λ g.
       let k = slot_for f mark a in
       let y = callable f mark a s in
       record { right = right_entered f r k (entry_of (card_at f k).fields a) o y.below y.registered y.used c g; pages = refl; kept = refl; long = refl; seals = λ j. refl; cards = λ j u v. refl }
@@ -133,20 +135,20 @@ module _ (f : Face) (r : Right f) (eight : length f.cards ≡ slot_count) where
   by_rules room size x rules =
       record {
         registers = λ mark q. register_good mark x rules q;
-        unregisters = λ mark k q. guard_good _ 8 _ λ t. released_good k answer.Done (ltb-true k slot_count (and_l (ltb k slot_count) _ t));
+        unregisters = λ mark k q. guard_good _ NotFound _ λ t. released_good k answer.Done (ltb-true k slot_count (and_l (ltb k slot_count) _ t));
         calls = λ mark a i o q. call_good mark a i o;
         returns = λ k q. record { right = right_left f r; pages = refl; kept = refl; long = refl; seals = λ j. refl; cards = λ j u v. refl };
-        jumps = λ a q. guard_good _ 4 _ λ b. guard_good _ 5 _ λ c. still_good _ _ same _ (λ j. refl);
+        jumps = λ a q. guard_good _ OutOfRange _ λ b. guard_good _ NotReached _ λ c. still_good _ _ same _ (λ j. refl);
         stays = λ a k q. still_good _ _ same _ (λ j. refl);
         leaves = λ a k q. released_good k (answer.Terminated k) (running f r k q).below;
-        reads = λ a n. guard_good _ 4 _ λ b. guard_good _ 5 _ λ c. guard_good _ 9 _ λ d. still_good _ _ same _ (λ j. refl);
-        writes = λ a. guard_good _ 4 _ λ b. guard_good _ 5 _ λ c. still_good _ _ same _ (λ j. refl);
-        device_reads = λ a n. guard_good _ 4 _ λ b. guard_good _ 5 _ λ c. guard_good _ 9 _ λ d. still_good _ _ same _ (λ j. refl);
-        device_writes = λ a. guard_good _ 4 _ λ b. guard_good _ 5 _ λ c. still_good _ _ same _ (λ j. refl);
-        extends = λ i source a n k q. guard_good _ 10 _ λ b. guard_good _ 4 _ λ c. guard_good _ 5 _ λ d.
+        reads = λ a n. guard_good _ OutOfRange _ λ b. guard_good _ NotReached _ λ c. guard_good _ BufferShort _ λ d. still_good _ _ same _ (λ j. refl);
+        writes = λ a. guard_good _ OutOfRange _ λ b. guard_good _ NotReached _ λ c. still_good _ _ same _ (λ j. refl);
+        device_reads = λ a n. guard_good _ OutOfRange _ λ b. guard_good _ NotReached _ λ c. guard_good _ BufferShort _ λ d. still_good _ _ same _ (λ j. refl);
+        device_writes = λ a. guard_good _ OutOfRange _ λ b. guard_good _ NotReached _ λ c. still_good _ _ same _ (λ j. refl);
+        extends = λ i source a n k q. guard_good _ NoSuchPcr _ λ b. guard_good _ OutOfRange _ λ c. guard_good _ NotReached _ λ d.
             still_good _ _ (extend k i source a n) _ ((running f r k q).registered, λ j q. refl);
-        pcr_reads = λ i k q. guard_good _ 10 _ λ b. guard_good _ 9 _ λ c. still_good _ _ same _ (λ j. refl);
+        pcr_reads = λ i k q. guard_good _ NoSuchPcr _ λ b. guard_good _ BufferShort _ λ c. still_good _ _ same _ (λ j. refl);
       }
 
   pub decide_good : (ok : Bool) (room size : ℕ) (x : Reading) → (x.refusal ≡ 0 → keeps_rules x.fields ≡ true) → (e : Event) → Good f (decide f ok room size x e)
-  decide_good ok room size x rules = by_rule f room size x (λ e m p. Good f p) (λ e n a b. refuse_good n) ok (λ t. by_rules room size x rules)
+  decide_good ok room size x rules = by_rule f room size x (λ e m p. Good f p) (λ e n a. refuse_good n) ok (λ t. by_rules room size x rules)

@@ -18,6 +18,8 @@ use Rattle.devicemap.specs.declared.Mapped.TheVariants as map_answer
 use Rattle.devicemap.specs.Map.{mapped, buffer_after}
 use Rattle.devicemap.specs.contracts.device_map as map
 use Rattle.events.specs.declared.Answer.TheVariants.{Refused}
+use Rattle.events.specs.declared.Refusal.{Refusal}
+use Rattle.events.specs.Refusals.{number_of}
 use Rattle.events.specs.Answers.{told_by}
 use Rattle.rules.specs.Act.{World, Out, step}
 use Rattle.kept.specs.Refusals.{AsGiven}
@@ -38,7 +40,7 @@ pub record EveryInputAnswered : Type 0 where
   -- and an answer that the contract allows is always there
   pub answered : (w : World) (x : Ask) → Called w x (step w.state w.memory x.event x.payload x.buffer)
   -- "Bad input is refused by number": an event's, one of 1 to 10
-  pub numbered : (w : World) (x : Ask) (o : Out) → Called w x o → (r : ℕ) → o.answer ≡ Refused r → (1 ≤ r) × (r ≤ 10)
+  pub numbered : (w : World) (x : Ask) (o : Out) → Called w x o → (r : Refusal) → o.answer ≡ Refused r → (1 ≤ number_of r) × (number_of r ≤ 10)
   -- "A refusal gives back the state as it came, and memory and the answer buffer keep their old bytes": of every state with eight slots, as all have
   pub kept :
       (w : World) (x : Ask) (o : Out) → Called w x o → length w.state.slots ≡ slot_count

@@ -26,6 +26,7 @@ use Rattle.wellformed.specs.WellFormed.{state_right, well_formed}
 use Rattle.wellformed.proofs.Facts.{card_under, card_free}
 use Rattle.events.specs.declared.Answer.{Answer}
 use Rattle.events.specs.declared.Answer.TheVariants as answer
+use Rattle.events.specs.declared.Refusal.TheVariants.{OutOfRange, NotReached, NotFound}
 use Rattle.painting.specs.Painting.{RunsFit}
 use Rattle.rules.specs.Plan.{Plan, refuse, still, nothing, keep, same}
 use Rattle.rules.specs.Tests.{given, with_card, under_mark, may_reach, execute, own_code}
@@ -98,26 +99,26 @@ own_code_lem s k p v x e o = rw (e, card_is s k x o)
 -- ---- the ends of the rules
 
 module _ (f : Face) (mark k : ℕ) where
-  pub unregister_8 : ltb k slot_count && under_mark (card_at f k) mark ≡ false → unregister_rule f mark k ≡ refuse 8 f
+  pub unregister_8 : ltb k slot_count && under_mark (card_at f k) mark ≡ false → unregister_rule f mark k ≡ refuse NotFound f
   unfolding unregister_rule
-  unregister_8 e = stop _ 8 f _ e
+  unregister_8 e = stop _ NotFound f _ e
 
   pub unregister_on : ltb k slot_count && under_mark (card_at f k) mark ≡ true → unregister_rule f mark k ≡ released f k answer.Done
   unfolding unregister_rule
-  unregister_on e = pass _ 8 f _ e
+  unregister_on e = pass _ NotFound f _ e
 
 module _ (f : Face) (a : ℕ) where
-  pub jump_4 : ltb a (start_of f.pages) ≡ false → jump_legacy f a ≡ refuse 4 f
+  pub jump_4 : ltb a (start_of f.pages) ≡ false → jump_legacy f a ≡ refuse OutOfRange f
   unfolding jump_legacy
-  jump_4 e = stop _ 4 f _ e
+  jump_4 e = stop _ OutOfRange f _ e
 
-  pub jump_5 : ltb a (start_of f.pages) ≡ true → may_reach Legacy f execute (page_of a) ≡ false → jump_legacy f a ≡ refuse 5 f
+  pub jump_5 : ltb a (start_of f.pages) ≡ true → may_reach Legacy f execute (page_of a) ≡ false → jump_legacy f a ≡ refuse NotReached f
   unfolding jump_legacy
-  jump_5 e h = pass _ 4 f _ e ∙ stop _ 5 f _ h
+  jump_5 e h = pass _ OutOfRange f _ e ∙ stop _ NotReached f _ h
 
   pub jump_on : ltb a (start_of f.pages) ≡ true → may_reach Legacy f execute (page_of a) ≡ true → jump_legacy f a ≡ still f nothing keep same answer.Done
   unfolding jump_legacy
-  jump_on e h = pass _ 4 f _ e ∙ pass _ 5 f _ h
+  jump_on e h = pass _ OutOfRange f _ e ∙ pass _ NotReached f _ h
 
   pub jump_own : (k : ℕ) → own_code f k (page_of a) ≡ true → jump_secure f k a ≡ still f nothing keep same answer.Done
   unfolding jump_secure

@@ -9,7 +9,7 @@ ghost use Rattle.change.specs.Turns.{Acts};
 
 use crate::release;
 use change::Change;
-use events::Answer;
+use events::{Answer, Refusal};
 use geometry::Geometry;
 use state::{Mode, Slot, State};
 use touch::pages;
@@ -20,10 +20,10 @@ fn jump_legacy(s: State, v: u8, address: usize) -> Answer
 {
     let page = address / Geometry::PAGE;
     if s.pages <= page {
-        return Answer::Refused(4);
+        return Answer::Refused(Refusal::OutOfRange);
     }
     if v != 0 {
-        return Answer::Refused(5);
+        return Answer::Refused(Refusal::NotReached);
     }
     Answer::Done
 }

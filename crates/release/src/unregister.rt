@@ -9,7 +9,7 @@ ghost use Rattle.change.specs.Turns.{Acts};
 
 use crate::release;
 use change::Change;
-use events::Answer;
+use events::{Answer, Refusal};
 use geometry::Geometry;
 use state::{Slot, State};
 
@@ -19,12 +19,12 @@ pub fn unregister(s: State, slot: Slot, memory: &mut [u8], mark: u64, k: usize) 
     ensures { Acts (unregister_rule (face_of s) mark k) s memory.old result memory.new }
 {
     if Geometry::SLOTS <= k {
-        return change::kept(Answer::Refused(8));
+        return change::kept(Answer::Refused(Refusal::NotFound));
     }
     let registered = slot.card.registered;
     let under = slot.card.mark;
     if registered & (under == mark) {
         return release::release(memory, &slot.card.fields, k, Answer::Done);
     }
-    change::kept(Answer::Refused(8))
+    change::kept(Answer::Refused(Refusal::NotFound))
 }

@@ -13,12 +13,15 @@ use Rattle.state.specs.Face.{Face}
 use Rattle.events.specs.declared.Event.{Event}
 use Rattle.events.specs.declared.Event.TheVariants.{Register, Unregister, Call, Return, Jump, Read, Write, DeviceRead, DeviceWrite, Extend, PcrRead}
 use Rattle.events.specs.declared.Answer.TheVariants as answer
+use Rattle.events.specs.declared.Refusal.TheVariants.{NotWellFormed, NotInThisMode}
+use Rattle.events.specs.declared.Refusal.{Refusal}
+use Rattle.events.specs.Refusals.{number_of}
 use Rattle.rules.specs.Plan.{nothing, keep, same, Plan, refuse, guard, still}
 use Rattle.rules.specs.Tests.{read, write, execute, device, may_reach}
 use Rattle.rules.specs.Decide.{released, register_rule, unregister_rule, call_rule, return_rule, jump_legacy, jump_secure, read_rule, write_rule, extend_rule, pcr_rule, legacy_only, secure_only, by_mode, rule_in, decide}
 
 -- of a check
-pub checked : (Q : Plan → Type 0) (t : Bool) (n : ℕ) (f : Face) (p : Plan) → Q (refuse n f) → (t ≡ true → Q p) → Q (guard t n f p)
+pub checked : (Q : Plan → Type 0) (t : Bool) (n : Refusal) (f : Face) (p : Plan) → Q (refuse n f) → (t ≡ true → Q p) → Q (guard t n f p)
 unfolding guard
 checked Q true n f p x h = h refl
 checked Q false n f p x h = x
@@ -30,11 +33,11 @@ picked Q false p q h g = g
 
 -- of a rule by the mode
 module _ (Q : Mode → Plan → Type 0) where
-  in_legacy : (m : Mode) (f : Face) (p : Plan) → Q m (refuse 2 f) → (m ≡ Legacy → Q Legacy p) → Q m (legacy_only m f p)
+  in_legacy : (m : Mode) (f : Face) (p : Plan) → Q m (refuse NotInThisMode f) → (m ≡ Legacy → Q Legacy p) → Q m (legacy_only m f p)
   in_legacy Legacy f p x h = h refl
   in_legacy (Secure k) f p x h = x
 
-  in_secure : (m : Mode) (f : Face) (p : ℕ → Plan) → Q m (refuse 2 f) → ((k : ℕ) → m ≡ Secure k → Q (Secure k) (p k)) → Q m (secure_only m f p)
+  in_secure : (m : Mode) (f : Face) (p : ℕ → Plan) → Q m (refuse NotInThisMode f) → ((k : ℕ) → m ≡ Secure k → Q (Secure k) (p k)) → Q m (secure_only m f p)
   in_secure Legacy f p x h = x
   in_secure (Secure k) f p x h = h k refl
 
@@ -60,9 +63,9 @@ module _ (f : Face) (room size : ℕ) (man : Reading) (Q : Event → Mode → Pl
     pub extends : (i : ℕ) (source : Source) (a n k : ℕ) → f.mode ≡ Secure k → Q (Extend i source a n) (Secure k) (extend_rule f k size i source a n)
     pub pcr_reads : (i k : ℕ) → f.mode ≡ Secure k → Q (PcrRead i) (Secure k) (pcr_rule f k room i)
 
-  module _ (refused : (e : Event) (n : ℕ) → 1 ≤ n → n ≤ 10 → Q e f.mode (refuse n f)) where
-    two : (e : Event) → Q e f.mode (refuse 2 f)
-    two e = refused e 2 (omega arith) (omega arith)
+  module _ (refused : (e : Event) (n : Refusal) → number_of n ≤ 10 → Q e f.mode (refuse n f)) where
+    two : (e : Event) → Q e f.mode (refuse NotInThisMode f)
+    two e = refused e NotInThisMode (omega arith)
 
     rule_by : ByRule → (e : Event) → Q e f.mode (rule_in f.mode f room size man e)
     unfolding rule_in jump_secure
@@ -82,4 +85,4 @@ module _ (f : Face) (room size : ℕ) (man : Reading) (Q : Event → Mode → Pl
 
     pub by_rule : (ok : Bool) → (ok ≡ true → ByRule) → (e : Event) → Q e f.mode (decide f ok room size man e)
     unfolding decide
-    by_rule ok h e = checked (Q e f.mode) ok 1 f _ (refused e 1 (omega arith) (omega arith)) (λ t. rule_by (h t) e)
+    by_rule ok h e = checked (Q e f.mode) ok NotWellFormed f _ (refused e NotWellFormed (omega arith)) (λ t. rule_by (h t) e)

@@ -16,6 +16,7 @@ use Rattle.wellformed.proofs.Facts.{right_of}
 use Rattle.wellformed.proofs.States.{state_face, well_state}
 use Rattle.events.specs.declared.Event.{Event}
 use Rattle.events.specs.declared.Event.TheVariants.{Register, Unregister, Call, Return, Jump, Read, Write, DeviceRead, DeviceWrite, Extend, PcrRead}
+use Rattle.events.specs.declared.Refusal.TheVariants.{NotWellFormed}
 use Rattle.rules.specs.Plan.{Plan, guard}
 use Rattle.rules.specs.Decide.{rule_in, decide}
 use Rattle.rules.specs.Act.{World, Out, act, plan_of, sealed, step}
@@ -56,7 +57,7 @@ rule_same m f room n a b (PcrRead i) t = refl
 
 decide_same : (f : Face) (ok : Bool) (room n : ℕ) (a b : Reading) (e : Event) → takes_bytes e ≡ true → decide f ok room n a e ≡ decide f ok room n b e
 unfolding decide
-decide_same f ok room n a b e t = ap (guard ok 1 f) (rule_same f.mode f room n a b e t)
+decide_same f ok room n a b e t = ap (guard ok NotWellFormed f) (rule_same f.mode f room n a b e t)
 
 abbrev plan_in : World → ℕ → List ℕ → Event → Plan
 plan_in w room payload e = plan_of w.state (length w.memory) room payload e

@@ -29,6 +29,7 @@ use Rattle.events.specs.declared.Event.{Event}
 use Rattle.events.specs.declared.Answer.{Answer}
 use Rattle.events.specs.declared.Answer.TheVariants as answer
 use Rattle.events.specs.Answers.{fills}
+use Rattle.events.specs.declared.Refusal.{Refusal}
 use Rattle.rules.specs.Plan.{Fetch, nothing, Store, keep, Seal, same, clear, Plan, refuse, guard, still}
 use Rattle.rules.specs.Tests.{Access, read, write, device, is_own, may_reach, in_range, free_at, free_slot, all_open, with_card}
 use Rattle.rules.specs.Decide.{released, registered, register_rule, unregister_rule, entered, call_entry, call_rule, out_from, return_rule, jump_legacy, read_rule, write_rule, source_right, source_reached, extend_rule, pcr_rule, decide}
@@ -45,10 +46,10 @@ module _ (k : ℕ) (f : Face) (short : length f.owner ≤ most_pages) (live : (c
       keeps (subst (λ (x : List Card). (get_or x k no_card).registered ≡ true) (sym c) live)
       (λ r. subst (λ (x : List ℕ). (owner_at f r ≡ k + 1 → get_or x r 0 ≡ k + 1) × (get_or x r 0 ≡ k + 1 → owner_at f r ≡ k + 1)) (sym q) (λ h. h, λ h. h))
 
-  refuse_safe : (o : Bool) (n r : ℕ) → Safe k f o n (refuse r f)
+  refuse_safe : (o : Bool) (n : ℕ) (r : Refusal) → Safe k f o n (refuse r f)
   refuse_safe o n r = record { fetches = tt; counts = omega arith; stores = tt; seals = tt; short = short; after = stay refl refl }
 
-  guard_safe : {o : Bool} {n : ℕ} (b : Bool) (r : ℕ) (p : Plan) → (b ≡ true → Safe k f o n p) → Safe k f o n (guard b r f p)
+  guard_safe : {o : Bool} {n : ℕ} (b : Bool) (r : Refusal) (p : Plan) → (b ≡ true → Safe k f o n p) → Safe k f o n (guard b r f p)
   guard_safe {o} {n} b r p h = checked (Safe k f o n) b r f p (refuse_safe o n r) h
 
   -- a plan that leaves the face as it is
@@ -178,4 +179,4 @@ module _ (k : ℕ) (f : Face) (short : length f.owner ≤ most_pages) (live : (c
       }
 
   pub decide_safe : (ok : Bool) → (ok ≡ true → Right f) → (room n : ℕ) (man : Reading) (e : Event) → Safe k f (own_in k f.mode e) n (decide f ok room n man e)
-  decide_safe ok g room n man = by_rule f room n man (λ e m p. Safe k f (own_in k m e) n p) (λ e r a b. refuse_safe _ n r) ok (λ t. by_rules (g t) room n man)
+  decide_safe ok g room n man = by_rule f room n man (λ e m p. Safe k f (own_in k m e) n p) (λ e r a. refuse_safe _ n r) ok (λ t. by_rules (g t) room n man)

@@ -17,6 +17,7 @@ use Rattle.events.specs.declared.Event.{Event}
 use Rattle.events.specs.declared.Event.TheVariants.{Register, Unregister, Call, Return, Jump, Read, Write, DeviceRead, DeviceWrite, Extend, PcrRead}
 use Rattle.events.specs.declared.Answer.{Answer}
 use Rattle.events.specs.declared.Answer.TheVariants as answer
+use Rattle.events.specs.declared.Refusal.TheVariants.{NotWellFormed, NotInThisMode, RuleBroken, OutOfRange, NotReached, NotOpen, NoFreeSlot, NotFound, BufferShort, NoSuchPcr}
 use Rattle.rules.specs.Plan.{nothing, bytes, pcr, keep, put, move, clean, same, clear, extend, measure, Plan, refuse, guard, still}
 use Rattle.rules.specs.Tests.{Access, read, write, execute, device, may_reach, in_range, unlooked, kept_as, entry_of, under_mark, slot_for, free_slot, all_open, with_card, with_mode}
 
@@ -43,14 +44,14 @@ registered f k mark x = record {
 
 unfoldable pub register_rule : Face → ℕ → Reading → Plan
 register_rule f mark m =
-    guard (eqb m.refusal 0) 3 f
-    (guard (all_open f m.fields) 6 f
-    (guard (ltb (free_slot f) slot_count) 7 f
+    guard (eqb m.refusal 0) RuleBroken f
+    (guard (all_open f m.fields) NotOpen f
+    (guard (ltb (free_slot f) slot_count) NoFreeSlot f
     (registered f (free_slot f) mark m.fields)))
 
 -- Unregister: 8 "(slot above 7, free, or mark differs)". "Releases it."
 unfoldable pub unregister_rule : Face → ℕ → ℕ → Plan
-unregister_rule f mark k = guard (ltb k slot_count && under_mark (card_at f k) mark) 8 f (released f k answer.Done)
+unregister_rule f mark k = guard (ltb k slot_count && under_mark (card_at f k) mark) NotFound f (released f k answer.Done)
 
 -- Call: 8; "then 4, in range before out range; then 5 unless both pages are open".
 -- "The input goes to the start of the param page; other bytes stay." "the running record holds slot, out address and the entry's output length".
@@ -65,10 +66,10 @@ entered f k x i o = record {
 
 unfoldable pub call_entry : Face → ℕ → Entry → ℕ → ℕ → Plan
 call_entry f k x i o =
-    guard (unlooked x.input (in_range f i x.input)) 4 f
-    (guard (unlooked x.output (in_range f o x.output)) 4 f
-    (guard (unlooked x.input (may_reach Legacy f read (page_of i))) 5 f
-    (guard (unlooked x.output (may_reach Legacy f write (page_of o))) 5 f
+    guard (unlooked x.input (in_range f i x.input)) OutOfRange f
+    (guard (unlooked x.output (in_range f o x.output)) OutOfRange f
+    (guard (unlooked x.input (may_reach Legacy f read (page_of i))) NotReached f
+    (guard (unlooked x.output (may_reach Legacy f write (page_of o))) NotReached f
     (entered f k x i o))))
 
 abbrev pub entry_for : Face → ℕ → ℕ → Entry
@@ -76,7 +77,7 @@ entry_for f k a = entry_at (card_at f k).fields (entry_of (card_at f k).fields a
 
 unfoldable pub call_rule : Face → ℕ → ℕ → ℕ → ℕ → Plan
 call_rule f mark a i o =
-    guard (ltb (slot_for f mark a) slot_count) 8 f
+    guard (ltb (slot_for f mark a) slot_count) NotFound f
     (call_entry f (slot_for f mark a) (entry_for f (slot_for f mark a) a) i o)
 
 -- Return: "n bytes from offset 2,048 of the param page go to the out address. Mode legacy, running record zero. Answer: left, n."
@@ -95,8 +96,8 @@ return_rule f k = record {
 -- Jump. "Legacy: 4 if outside memory, 5 unless open."
 unfoldable pub jump_legacy : Face → ℕ → Plan
 jump_legacy f a =
-    guard (ltb a (start_of f.pages)) 4 f
-    (guard (may_reach Legacy f execute (page_of a)) 5 f
+    guard (ltb a (start_of f.pages)) OutOfRange f
+    (guard (may_reach Legacy f execute (page_of a)) NotReached f
     (still f nothing keep same answer.Done))
 
 -- "Secure: on a code page of its own, done; anywhere else, beyond memory too, it is released, mode legacy, answer: terminated, slot"
@@ -106,16 +107,16 @@ jump_secure f k a = pick (may_reach (Secure k) f execute (page_of a)) (still f n
 -- Read: 4, 5, 9. Device read is the same with the device's access.
 unfoldable pub read_rule : Mode → Face → Access → ℕ → ℕ → ℕ → Plan
 read_rule m f access room a n =
-    guard (in_range f a n) 4 f
-    (guard (may_reach m f access (page_of a)) 5 f
-    (guard (leb n room) 9 f
+    guard (in_range f a n) OutOfRange f
+    (guard (may_reach m f access (page_of a)) NotReached f
+    (guard (leb n room) BufferShort f
     (still f (bytes a n) keep same (answer.Filled n))))
 
 -- Write: 4, 5; the payload has n bytes
 unfoldable pub write_rule : Mode → Face → Access → ℕ → ℕ → Plan
 write_rule m f access a n =
-    guard (in_range f a n) 4 f
-    (guard (may_reach m f access (page_of a)) 5 f
+    guard (in_range f a n) OutOfRange f
+    (guard (may_reach m f access (page_of a)) NotReached f
     (still f nothing (put a) same answer.Done))
 
 -- Extend: 10, 4, 5. "in the payload (all of it, at most 4,096, else 4; address and length not looked at) or in a range of its own pages";
@@ -130,16 +131,16 @@ source_reached f k Memory a n = unlooked n (may_reach (Secure k) f read (page_of
 
 unfoldable pub extend_rule : Face → ℕ → ℕ → ℕ → Source → ℕ → ℕ → Plan
 extend_rule f k size i source a n =
-    guard (ltb i pcr_count) 10 f
-    (guard (source_right f source size a n) 4 f
-    (guard (source_reached f k source a n) 5 f
+    guard (ltb i pcr_count) NoSuchPcr f
+    (guard (source_right f source size a n) OutOfRange f
+    (guard (source_reached f k source a n) NotReached f
     (still f nothing keep (extend k i source a n) answer.Done)))
 
 -- µPCR read: 10, 9. "Twenty bytes."
 unfoldable pub pcr_rule : Face → ℕ → ℕ → ℕ → Plan
 pcr_rule f k room i =
-    guard (ltb i pcr_count) 10 f
-    (guard (leb digest_size room) 9 f
+    guard (ltb i pcr_count) NoSuchPcr f
+    (guard (leb digest_size room) BufferShort f
     (still f (pcr k i) keep same (answer.Filled digest_size)))
 
 -- ---- all of them
@@ -147,10 +148,10 @@ pcr_rule f k room i =
 -- "event not allowed in this mode"
 abbrev pub legacy_only : Mode → Face → Plan → Plan
 legacy_only Legacy f p = p
-legacy_only (Secure k) f p = refuse 2 f
+legacy_only (Secure k) f p = refuse NotInThisMode f
 
 abbrev pub secure_only : Mode → Face → (ℕ → Plan) → Plan
-secure_only Legacy f r = refuse 2 f
+secure_only Legacy f r = refuse NotInThisMode f
 secure_only (Secure k) f r = r k
 
 abbrev pub by_mode : Mode → Plan → (ℕ → Plan) → Plan
@@ -173,4 +174,4 @@ rule_in m f room size man (PcrRead i) = secure_only m f (λ k. pcr_rule f k room
 
 -- "Check 1 comes first, then 2, then the order shown." Whether the state is well formed is all that a decision learns of memory and µPCRs.
 unfoldable pub decide : Face → Bool → ℕ → ℕ → Reading → Event → Plan
-decide f ok room size man e = guard ok 1 f (rule_in f.mode f room size man e)
+decide f ok room size man e = guard ok NotWellFormed f (rule_in f.mode f room size man e)

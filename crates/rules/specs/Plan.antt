@@ -3,6 +3,7 @@ use Rattle.std.specs.Prelude.{ℕ, Bool, true, false, List}
 use Rattle.memory.specs.declared.Source.{Source}
 use Rattle.events.specs.declared.Answer.{Answer}
 use Rattle.events.specs.declared.Answer.TheVariants as answer
+use Rattle.events.specs.declared.Refusal.{Refusal}
 use Rattle.state.specs.Face.{Face}
 
 -- what fills the answer buffer
@@ -41,11 +42,11 @@ pub record Plan : Type 0 where
   pub seal : Seal
 
 -- "Each returns its number and the state as given; memory and the answer buffer keep every byte."
-abbrev pub refuse : ℕ → Face → Plan
+abbrev pub refuse : Refusal → Face → Plan
 refuse r f = record { answer = answer.Refused r; next = f; fetch = nothing; store = keep; seal = same }
 
--- a check: its number where it fails, else what follows
-unfoldable pub guard : Bool → ℕ → Face → Plan → Plan
+-- a check: its refusal where it fails, else what follows
+unfoldable pub guard : Bool → Refusal → Face → Plan → Plan
 guard true r f p = p
 guard false r f p = refuse r f
 

@@ -3,7 +3,7 @@ ghost use Rattle.std.specs.Prelude.{◌<◌};
 ghost use Rattle.geometry.specs.Geometry.{slot_count};
 ghost use Rattle.touch.specs.Carried.{IsSlot, PcrGiven};
 
-use events::Answer;
+use events::{Answer, Refusal};
 use geometry::Geometry;
 use state::{Slot, State};
 
@@ -13,10 +13,10 @@ pub fn pcr_read(s: State, k: usize, slot: Slot, buffer: &mut [u8], index: usize)
     ensures { PcrGiven s k index buffer.old result buffer.new }
 {
     if Geometry::PCRS <= index {
-        return Answer::Refused(10);
+        return Answer::Refused(Refusal::NoSuchPcr);
     }
     if buffer.len() < Geometry::DIGEST {
-        return Answer::Refused(9);
+        return Answer::Refused(Refusal::BufferShort);
     }
     let d = slot.pcrs[index];
     let bytes = d.bytes;

@@ -8,7 +8,7 @@ ghost use Rattle.rules.specs.Decide.{read_rule};
 ghost use Rattle.touch.specs.Carried.{Owned, Fills, ReadBy};
 
 use crate::pages;
-use events::Answer;
+use events::{Answer, Refusal};
 use geometry::Geometry;
 use state::State;
 
@@ -25,13 +25,13 @@ fn give(
     ensures { ReadBy reached pages address n memory.now buffer.old result buffer.new }
 {
     if !Geometry::is_range(pages, address, n) {
-        return Answer::Refused(4);
+        return Answer::Refused(Refusal::OutOfRange);
     }
     if !reached {
-        return Answer::Refused(5);
+        return Answer::Refused(Refusal::NotReached);
     }
     if buffer.len() < n {
-        return Answer::Refused(9);
+        return Answer::Refused(Refusal::BufferShort);
     }
     memory::give_bytes(memory, address, n, buffer);
     Answer::Filled(n)

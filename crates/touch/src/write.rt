@@ -8,7 +8,7 @@ ghost use Rattle.rules.specs.Decide.{write_rule};
 ghost use Rattle.touch.specs.Carried.{Owned, Runs, Stores, WrittenBy};
 
 use crate::pages;
-use events::Answer;
+use events::{Answer, Refusal};
 use geometry::Geometry;
 use state::{Slot, State};
 
@@ -18,10 +18,10 @@ fn take(pages: usize, reached: bool, memory: &mut [u8], payload: &[u8], address:
     ensures { WrittenBy reached pages address payload.now memory.old result memory.new }
 {
     if !Geometry::is_range(pages, address, payload.len()) {
-        return Answer::Refused(4);
+        return Answer::Refused(Refusal::OutOfRange);
     }
     if !reached {
-        return Answer::Refused(5);
+        return Answer::Refused(Refusal::NotReached);
     }
     memory::put_bytes(memory, address, payload);
     Answer::Done

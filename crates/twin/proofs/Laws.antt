@@ -1,6 +1,6 @@
 -- A twin comes back as it was given; a reply tells its answer.
 use Prim.Native.Nat.{ℕ, ◌-◌, ◌≤◌, ◌<◌, ◌^◌}
-use mathlib.Core.Path.{◌≡◌, refl, sym}
+use mathlib.Core.Path.{◌≡◌, refl, sym, ap}
 use mathlib.Core.Bool.{Bool, true, false}
 use native.Mathlib.Omega.{arith}
 use native.Mathlib.Nat.{pos_of_ne-zero}
@@ -9,6 +9,8 @@ use lib.Dec.{eqb}
 use Rattle.lists.specs.Below.{pick}
 use Rattle.state.specs.declared.Mode.TheVariants.{Legacy, Secure}
 use Rattle.events.specs.declared.Answer.TheVariants as answer
+use Rattle.events.proofs.Numbers.{back}
+use Rattle.twin.specs.Asked.{refused_as}
 use Rattle.twin.specs.Twin.{last, mode_of, number_of}
 use Rattle.twin.specs.Promise.{AsGiven, Told, Answered}
 
@@ -33,7 +35,7 @@ number_told (answer.Terminated k) = refl
 number_told (answer.Filled n) = refl
 
 pub read_off : Answered
-read_off (answer.Refused r) = refl
+read_off (answer.Refused r) = ap refused_as (back r)
 read_off answer.Done = refl
 read_off (answer.Slot k) = refl
 read_off (answer.Entered k) = refl

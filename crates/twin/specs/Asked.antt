@@ -1,5 +1,5 @@
 -- The event that a request names, and the reply that an answer becomes.
-use Rattle.std.specs.Prelude.{ℕ, List, eqb, Result, Ok, Err}
+use Rattle.std.specs.Prelude.{ℕ, List, eqb, Option, Some, None, Result, Ok, Err}
 use Rattle.lists.specs.Below.{pick}
 use Rattle.memory.specs.declared.Source.{Source}
 use Rattle.memory.specs.declared.Source.TheVariants.{Payload, Memory}
@@ -7,6 +7,8 @@ use Rattle.events.specs.declared.Event.{Event}
 use Rattle.events.specs.declared.Event.TheVariants.{Register, Unregister, Call, Return, Jump, Read, Write, DeviceRead, DeviceWrite, Extend, PcrRead}
 use Rattle.events.specs.declared.Answer.{Answer}
 use Rattle.events.specs.declared.Answer.TheVariants as answer
+use Rattle.events.specs.declared.Refusal.{Refusal}
+use Rattle.events.specs.Refusals.{number_of, refusal_of}
 use Rattle.twin.specs.declared.Request.{Request}
 use Rattle.twin.specs.declared.Reply.{Reply}
 use Rattle.twin.specs.declared.NoEvent.{NoEvent}
@@ -49,7 +51,7 @@ abbrev pub reply : ℕ → ℕ → ℕ → Reply
 reply n k v = record { number = n; kind = k; value = v }
 
 abbrev pub reply_of : Answer → Reply
-reply_of (answer.Refused r) = reply r 0 0
+reply_of (answer.Refused r) = reply (number_of r) 0 0
 reply_of answer.Done = reply 0 1 0
 reply_of (answer.Slot k) = reply 0 2 k
 reply_of (answer.Entered k) = reply 0 3 k
@@ -57,18 +59,22 @@ reply_of (answer.Left n) = reply 0 4 n
 reply_of (answer.Terminated k) = reply 0 5 k
 reply_of (answer.Filled n) = reply 0 6 n
 
--- the answer that a reply stands for
-abbrev pub answer_as : ℕ → Reply → Answer
-answer_as k r =
-    pick (eqb k 1) answer.Done
-    (pick (eqb k 2) (answer.Slot r.value)
-    (pick (eqb k 3) (answer.Entered r.value)
-    (pick (eqb k 4) (answer.Left r.value)
-    (pick (eqb k 5) (answer.Terminated r.value)
-    (pick (eqb k 6) (answer.Filled r.value)
-    (answer.Refused r.number))))))
+-- the answer that a reply stands for, if any
+abbrev pub refused_as : Option Refusal → Option Answer
+refused_as (Some r) = Some (answer.Refused r)
+refused_as None = None
 
-abbrev pub answer_of : Reply → Answer
+abbrev pub answer_as : ℕ → Reply → Option Answer
+answer_as k r =
+    pick (eqb k 1) (Some answer.Done)
+    (pick (eqb k 2) (Some (answer.Slot r.value))
+    (pick (eqb k 3) (Some (answer.Entered r.value))
+    (pick (eqb k 4) (Some (answer.Left r.value))
+    (pick (eqb k 5) (Some (answer.Terminated r.value))
+    (pick (eqb k 6) (Some (answer.Filled r.value))
+    (refused_as (refusal_of r.number)))))))
+
+abbrev pub answer_of : Reply → Option Answer
 answer_of r = answer_as r.kind r
 
 -- "A kind that is none of the eleven, or a source that is neither": a number that neither document uses

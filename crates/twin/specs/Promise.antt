@@ -1,5 +1,5 @@
 -- What the twin promises beyond the contracts.
-use Rattle.std.specs.Prelude.{◌<◌, ◌^◌, ◌≡◌}
+use Rattle.std.specs.Prelude.{◌<◌, ◌^◌, ◌≡◌, Some}
 use Rattle.events.specs.declared.Answer.{Answer}
 use Rattle.events.specs.Answers.{told_by}
 use Rattle.twin.specs.declared.Monitor.{Monitor}
@@ -15,4 +15,4 @@ abbrev pub Told : Type 0
 Told = (a : Answer) → (reply_of a).number ≡ (told_by a).number
 
 abbrev pub Answered : Type 0
-Answered = (a : Answer) → answer_of (reply_of a) ≡ a
+Answered = (a : Answer) → answer_of (reply_of a) ≡ Some a

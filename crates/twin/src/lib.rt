@@ -164,7 +164,7 @@ impl From<Answer> for Reply {
 
     fn from(a: Answer) -> Reply {
         let (number, kind, value) = match a {
-            Answer::Refused(n) => (n, 0, 0),
+            Answer::Refused(r) => (u8::from(r), 0, 0),
             Answer::Done => (0, 1, 0),
             Answer::Slot(k) => (0, 2, k),
             Answer::Entered(k) => (0, 3, k),

@@ -1,5 +1,6 @@
 -- One outcome for each input: the eleven events and the running record. Exception: an event's own function and `decided` say by a change what becomes of
 -- the state; answer, state after the change, memory and buffer are one, and not the change that comes to them.
+use Rattle.events.specs.contracts.U8FromRefusal.from as events_number
 use Rattle.switch.specs.contracts.monitor_enter as switch_monitor_enter
 use Rattle.switch.specs.contracts.monitor_leave as switch_monitor_leave
 use Rattle.switch.specs.contracts.kept_as as switch_kept_as
@@ -57,6 +58,7 @@ abbrev pub switch_monitor_leave_says : Says switch_monitor_leave.ended
 switch_monitor_leave_says κs a z e = told ((switch_monitor_leave.clauses w₀.𝓛 w₀.𝓜.mem w₀.𝓡.run κs a).ensures tt z e) (r_last _)
 
 pub record Events : Type 0 where
+  pub events_number_one : OneOutcome events_number.ended (λ κs a z e. told ((events_number.clauses w₀.𝓛 w₀.𝓜.mem w₀.𝓡.run κs a).ensures tt z e) (r_last _))
   pub switch_monitor_enter_one : OneOutcome switch_monitor_enter.ended switch_monitor_enter_says
   pub switch_monitor_leave_one : OneOutcome switch_monitor_leave.ended switch_monitor_leave_says
   pub switch_kept_as_one : OneOutcome switch_kept_as.ended (λ κs a z e. told ((switch_kept_as.clauses w₀.𝓛 w₀.𝓜.mem w₀.𝓡.run κs a).ensures tt z e) (r_last _))

@@ -1,6 +1,7 @@
 use mathlib.Core.Path.{ap}
 use mathlib.Core.List.{[], ◌∷◌}
 use Rattle.events.specs.declared.Answer.{Answer}
+use Rattle.events.specs.Refusals.{number_of}
 use Rattle.answers.specs.Text.{text_of}
 use Rattle.answers.proofs.Printing.{told, told_none, number_told, bytes_told}
 use Rattle.answers.proofs.say.Goals as goal
@@ -54,5 +55,5 @@ pub returns-in-Refused : goal.returns-in-Refused
 returns-in-Refused c =
     let s = c.args in
     told s.text.now s.answer s.buffer.now _ _ c.if-text-lt-LONGEST_TEXT.false
-    (number_told (110 ∷ 111 ∷ 32 ∷ []) s.answer s.buffer.now c.in-Refused.r c.wide.result (ap (λ (y : Answer). text_of y s.buffer.now) c.in-Refused.is) c.wide.ensures)
+    (number_told (110 ∷ 111 ∷ 32 ∷ []) s.answer s.buffer.now (number_of c.in-Refused.r) c.number.result (ap (λ (y : Answer). text_of y s.buffer.now) c.in-Refused.is) c.number.ensures)
     c.say_number-in-Refused.ensures.0 c.say_number-in-Refused.ensures.1

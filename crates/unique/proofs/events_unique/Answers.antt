@@ -6,6 +6,7 @@ use Rattle.unique.proofs.events_unique.Goals as goal
 
 pub returns : goal.returns
 returns c = record {
+  events_number_one = λ κs a z z' w w'. result;
   switch_monitor_enter_one = λ κs a z z' w w' p q. (refl, λ i. (both p q i, (tt, (tt, (tt, tt)))));
   switch_monitor_leave_one = λ κs a z z' w w' p q. (both p.0 q.0, λ i. (both p.1 q.1 i, tt));
   switch_kept_as_one = λ κs a z z' w w'. result;

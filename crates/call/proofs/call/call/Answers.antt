@@ -8,6 +8,7 @@ use Rattle.rules.specs.Decide.{call_entry, entry_for}
 use Rattle.rules.specs.Tests.{slot_for}
 use Rattle.rules.specs.Plan.{nothing}
 use Rattle.events.specs.declared.Answer.TheVariants as answer
+use Rattle.events.specs.declared.Refusal.TheVariants.{NotFound}
 use Rattle.state.proofs.Shaped.{state_shape}
 use Rattle.state.specs.Face.{face_of}
 use Rattle.state.specs.Zero.{no_slot}
@@ -48,7 +49,7 @@ returns-then-found-ge-SLOTS c = λ payload.
     let a = c.args in
     let f = face_of a.s in
     rw (call_8 f a.mark a.address a.input a.output (le-ltb (slot_for f a.mark a.address) slot_count (omega (arith, sought_k a.s _ _ c.slot_for-found.ensures, c.if-found-ge-SLOTS.true))))
-    (still_settles a.s (state_shape a.s _ c.well_formed.0).slots_long nothing (answer.Refused 8) payload a.memory.now _ c.kept.ensures)
+    (still_settles a.s (state_shape a.s _ c.well_formed.0).slots_long nothing (answer.Refused NotFound) payload a.memory.now _ c.kept.ensures)
 
 pub call_entry-requires : goal.call_entry-requires
 call_entry-requires c =

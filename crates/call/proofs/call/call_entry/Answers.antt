@@ -4,6 +4,7 @@ use Rattle.change.proofs.Settled.{still_settles}
 use Rattle.wellformed.proofs.States.{well_state, well_long}
 use Rattle.rules.specs.Plan.{nothing}
 use Rattle.events.specs.declared.Answer.TheVariants as answer
+use Rattle.events.specs.declared.Refusal.TheVariants.{OutOfRange, NotReached}
 use Rattle.state.proofs.Shaped.{state_shape}
 use Rattle.state.specs.Face.{face_of}
 use Rattle.lists.specs.Bytes.{part}
@@ -17,25 +18,25 @@ pub returns-then-not-in_range : goal.returns-then-not-in_range
 returns-then-not-in_range c = λ payload.
     let a = c.args in
     rw (in_4 (face_of a.s) a.found.k a.x a.input a.output (sym c.in_range.ensures ∙ c.if-not-in_range.true))
-    (still_settles a.s (state_shape a.s _ c.well_formed.0).slots_long nothing (answer.Refused 4) payload a.memory.now _ c.kept.ensures)
+    (still_settles a.s (state_shape a.s _ c.well_formed.0).slots_long nothing (answer.Refused OutOfRange) payload a.memory.now _ c.kept.ensures)
 
 pub returns-then-not-in_range-2 : goal.returns-then-not-in_range-2
 returns-then-not-in_range-2 c = λ payload.
     let a = c.args in
     rw (out_4 (face_of a.s) a.found.k a.x a.input a.output (sym c.in_range.ensures ∙ c.if-not-in_range.false) (sym c.in_range-2.ensures ∙ c.if-not-in_range-2.true))
-    (still_settles a.s (state_shape a.s _ c.well_formed.0).slots_long nothing (answer.Refused 4) payload a.memory.now _ c.kept-then-not-in_range-2.ensures)
+    (still_settles a.s (state_shape a.s _ c.well_formed.0).slots_long nothing (answer.Refused OutOfRange) payload a.memory.now _ c.kept-then-not-in_range-2.ensures)
 
 pub returns-then-not-on_open : goal.returns-then-not-on_open
 returns-then-not-on_open c = λ payload.
     let a = c.args in
     rw (in_5 (face_of a.s) a.found.k a.x a.input a.output (sym c.in_range.ensures ∙ c.if-not-in_range.false) (sym c.in_range-2.ensures ∙ c.if-not-in_range-2.false) (open_by a.s a.input a.x.input a.from c.requires.1.0.0 ∙ sym c.on_open.ensures ∙ c.if-not-on_open.true))
-    (still_settles a.s (state_shape a.s _ c.well_formed.0).slots_long nothing (answer.Refused 5) payload a.memory.now _ c.kept-then-not-on_open.ensures)
+    (still_settles a.s (state_shape a.s _ c.well_formed.0).slots_long nothing (answer.Refused NotReached) payload a.memory.now _ c.kept-then-not-on_open.ensures)
 
 pub returns-then-not-on_open-2 : goal.returns-then-not-on_open-2
 returns-then-not-on_open-2 c = λ payload.
     let a = c.args in
     rw (out_5 (face_of a.s) a.found.k a.x a.input a.output (sym c.in_range.ensures ∙ c.if-not-in_range.false) (sym c.in_range-2.ensures ∙ c.if-not-in_range-2.false) (open_by a.s a.input a.x.input a.from c.requires.1.0.0 ∙ sym c.on_open.ensures ∙ c.if-not-on_open.false) (open_by a.s a.output a.x.output a.to c.requires.1.0.1 ∙ sym c.on_open-2.ensures ∙ c.if-not-on_open-2.true))
-    (still_settles a.s (state_shape a.s _ c.well_formed.0).slots_long nothing (answer.Refused 5) payload a.memory.now _ c.kept-then-not-on_open-2.ensures)
+    (still_settles a.s (state_shape a.s _ c.well_formed.0).slots_long nothing (answer.Refused NotReached) payload a.memory.now _ c.kept-then-not-on_open-2.ensures)
 
 pub param_start-requires : goal.param_start-requires
 param_start-requires c =

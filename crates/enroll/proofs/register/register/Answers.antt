@@ -6,6 +6,7 @@ use Rattle.rules.specs.Decide.{register_rule, registered}
 use Rattle.rules.specs.Tests.{all_open, free_slot}
 use Rattle.rules.specs.Plan.{nothing}
 use Rattle.events.specs.declared.Answer.TheVariants as answer
+use Rattle.events.specs.declared.Refusal.TheVariants.{RuleBroken, NotOpen, NoFreeSlot}
 use Rattle.state.proofs.Shaped.{state_shape}
 use Rattle.state.specs.Face.{Face, face_of}
 use Rattle.manifest.specs.declared.Reading.{Reading}
@@ -36,7 +37,7 @@ returns-then-reading-ne0 c =
     let r = c.read-reading.result in
     to_plan (sym (register_3 f a.mark r (ne_eqb r.refusal 0 c.if-reading-ne0.true)) ∙ ap (λ (x : Reading). register_rule f a.mark x) c.read-reading.ensures)
     a.payload.now a.s a.memory.now
-    (still_settles a.s (state_shape a.s _ c.well_formed.0).slots_long nothing (answer.Refused 3) a.payload.now a.memory.now _ c.kept.ensures)
+    (still_settles a.s (state_shape a.s _ c.well_formed.0).slots_long nothing (answer.Refused RuleBroken) a.payload.now a.memory.now _ c.kept.ensures)
 
 pub all_open-requires : goal.all_open-requires
 all_open-requires c = kept_fit _ (read_kept _ c.read-reading.result c.read-reading.ensures c.if-reading-ne0.false)
@@ -51,7 +52,7 @@ returns-then-not-all_open c =
     let o = open_so f r.fields _ (read_kept _ r q z) c.all_open.ensures ∙ c.if-not-all_open.true in
     to_plan (sym (register_6 f a.mark r (eq-eqb r.refusal 0 z) o) ∙ ap (λ (x : Reading). register_rule f a.mark x) q)
     a.payload.now a.s a.memory.now
-    (still_settles a.s (state_shape a.s _ c.well_formed.0).slots_long nothing (answer.Refused 6) a.payload.now a.memory.now _ c.kept-then-not-all_open.ensures)
+    (still_settles a.s (state_shape a.s _ c.well_formed.0).slots_long nothing (answer.Refused NotOpen) a.payload.now a.memory.now _ c.kept-then-not-all_open.ensures)
 
 pub returns-then-k-ge-SLOTS : goal.returns-then-k-ge-SLOTS
 returns-then-k-ge-SLOTS c =
@@ -63,7 +64,7 @@ returns-then-k-ge-SLOTS c =
     let o = open_so f r.fields _ (read_kept _ r q z) c.all_open.ensures ∙ c.if-not-all_open.false in
     to_plan (sym (register_7 f a.mark r (eq-eqb r.refusal 0 z) o (le-ltb (free_slot f) slot_count (omega (arith, c.free_slot-k.ensures, c.if-k-ge-SLOTS.true)))) ∙ ap (λ (x : Reading). register_rule f a.mark x) q)
     a.payload.now a.s a.memory.now
-    (still_settles a.s (state_shape a.s _ c.well_formed.0).slots_long nothing (answer.Refused 7) a.payload.now a.memory.now _ c.kept-then-k-ge-SLOTS.ensures)
+    (still_settles a.s (state_shape a.s _ c.well_formed.0).slots_long nothing (answer.Refused NoFreeSlot) a.payload.now a.memory.now _ c.kept-then-k-ge-SLOTS.ensures)
 
 pub measured-digest-requires : goal.measured-digest-requires
 measured-digest-requires c =

@@ -3,6 +3,7 @@ use Rattle.change.proofs.Settled.{still_settles}
 use Rattle.wellformed.proofs.States.{well_long}
 use Rattle.rules.specs.Plan.{nothing}
 use Rattle.events.specs.declared.Answer.TheVariants as answer
+use Rattle.events.specs.declared.Refusal.TheVariants.{OutOfRange, NotReached, NoSuchPcr}
 use Rattle.state.proofs.Shaped.{state_shape}
 use Rattle.state.specs.Face.{face_of}
 use Rattle.sha_1.specs.Sha1.{sha1}
@@ -18,19 +19,19 @@ pub returns-then-index-ge-PCRS : goal.returns-then-index-ge-PCRS
 returns-then-index-ge-PCRS c =
     let a = c.args in
     rw (extend_10 (face_of a.s) a.k (length a.payload.now) a.index a.source a.address a.n (le-ltb a.index pcr_count c.if-index-ge-PCRS.true))
-    (still_settles a.s (state_shape a.s _ c.well_formed.0).slots_long nothing (answer.Refused 10) a.payload.now a.memory.now _ c.kept.ensures)
+    (still_settles a.s (state_shape a.s _ c.well_formed.0).slots_long nothing (answer.Refused NoSuchPcr) a.payload.now a.memory.now _ c.kept.ensures)
 
 pub returns-then-not-source_right : goal.returns-then-not-source_right
 returns-then-not-source_right c =
     let a = c.args in
     rw (extend_4 (face_of a.s) a.k (length a.payload.now) a.index a.source a.address a.n (lt-ltb a.index pcr_count c.if-index-ge-PCRS.false) (sym c.source_right.ensures ∙ c.if-not-source_right.true))
-    (still_settles a.s (state_shape a.s _ c.well_formed.0).slots_long nothing (answer.Refused 4) a.payload.now a.memory.now _ c.kept-then-not-source_right.ensures)
+    (still_settles a.s (state_shape a.s _ c.well_formed.0).slots_long nothing (answer.Refused OutOfRange) a.payload.now a.memory.now _ c.kept-then-not-source_right.ensures)
 
 pub returns-then-not-source_reached : goal.returns-then-not-source_reached
 returns-then-not-source_reached c =
     let a = c.args in
     rw (extend_5 (face_of a.s) a.k (length a.payload.now) a.index a.source a.address a.n (lt-ltb a.index pcr_count c.if-index-ge-PCRS.false) (sym c.source_right.ensures ∙ c.if-not-source_right.false) (sym c.source_reached.ensures ∙ c.if-not-source_reached.true))
-    (still_settles a.s (state_shape a.s _ c.well_formed.0).slots_long nothing (answer.Refused 5) a.payload.now a.memory.now _ c.kept-then-not-source_reached.ensures)
+    (still_settles a.s (state_shape a.s _ c.well_formed.0).slots_long nothing (answer.Refused NotReached) a.payload.now a.memory.now _ c.kept-then-not-source_reached.ensures)
 
 pub chosen-part-requires : goal.chosen-part-requires
 chosen-part-requires c =

@@ -4,6 +4,7 @@ use Rattle.touch.proofs.Ready.{card_is}
 use Rattle.change.proofs.Settled.{still_settles}
 use Rattle.rules.specs.Plan.{nothing}
 use Rattle.events.specs.declared.Answer.TheVariants as answer
+use Rattle.events.specs.declared.Refusal.TheVariants.{NotFound}
 use Rattle.state.proofs.Shaped.{state_shape}
 use Rattle.state.specs.Face.{face_of}
 use Rattle.geometry.specs.Geometry.{slot_count}
@@ -14,7 +15,7 @@ pub returns-then-k-ge-SLOTS : goal.returns-then-k-ge-SLOTS
 returns-then-k-ge-SLOTS c = λ payload.
     let a = c.args in
     rw (unregister_8 (face_of a.s) a.mark a.k (rw (le-ltb a.k slot_count c.if-k-ge-SLOTS.true)))
-    (still_settles a.s (state_shape a.s _ c.well_formed.0).slots_long nothing (answer.Refused 8) payload a.memory.now _ c.kept.ensures)
+    (still_settles a.s (state_shape a.s _ c.well_formed.0).slots_long nothing (answer.Refused NotFound) payload a.memory.now _ c.kept.ensures)
 
 pub release-requires : goal.release-requires
 release-requires c =
@@ -34,4 +35,4 @@ returns c = λ payload.
     let a = c.args in
     let l = c.if-k-ge-SLOTS.false in
     rw (unregister_8 (face_of a.s) a.mark a.k (rw (lt-ltb a.k slot_count l, ← card_is a.s a.k a.slot (c.requires.1 l)) c.if-registered-under.false))
-    (still_settles a.s (state_shape a.s _ c.well_formed.0).slots_long nothing (answer.Refused 8) payload a.memory.now _ c.kept-2.ensures)
+    (still_settles a.s (state_shape a.s _ c.well_formed.0).slots_long nothing (answer.Refused NotFound) payload a.memory.now _ c.kept-2.ensures)
