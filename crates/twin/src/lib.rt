@@ -11,7 +11,7 @@ use geometry::Geometry;
 use memory::Source;
 use state::{Mode, Running, Slot, State};
 
-// The state's twin: the mode is a number, 0 legacy, n + 1 secure in slot n.
+// The state's twin, laid out as host/monitor.h has it: so the mode is a number, 0 legacy, n + 1 secure in slot n.
 #[repr(C)]
 #[derive(Clone, Copy)]
 pub struct Monitor {
@@ -23,7 +23,7 @@ pub struct Monitor {
     pub running: Running,
 }
 
-// An event: its kind, and the numbers of all kinds, of which each kind has its own.
+// An event, laid out as host/monitor.h has it: its kind, a number, and the numbers of all kinds, of which each kind has its own.
 #[repr(C)]
 #[derive(Clone, Copy)]
 pub struct Request {
@@ -38,7 +38,7 @@ pub struct Request {
     pub source: usize,
 }
 
-// An answer: the number given for no, or 0; its kind, and its value.
+// An answer, laid out as host/monitor.h has it: the number given for no, or 0; its kind, a number, and its value.
 #[repr(C)]
 #[derive(Clone, Copy)]
 pub struct Reply {
@@ -51,7 +51,7 @@ pub struct Reply {
 #[derive(Clone, Copy, Debug, PartialEq, Eq)]
 pub struct NoEvent;
 
-// The mode of a number of C's. No `From`: neither a number nor a mode is of this crate, and the number is C's alone.
+// The mode of C's number. A function and no `From`: neither the number's type nor the mode's is of this crate, which an `impl` needs.
 pub fn mode_of(n: usize) -> Mode
     ensures { result ≡ mode_of n }
 {
@@ -71,6 +71,7 @@ pub fn number_of(m: Mode) -> usize
 impl From<Monitor> for State {
     ghost from_gives = { λ m s. s ≡ opened_of m };
 
+    // An array goes by a variable of its own: the prover covers no copy from field to field.
     fn from(m: Monitor) -> State {
         let owner = m.owner;
         let slots = m.slots;
@@ -114,7 +115,7 @@ fn source_of(n: usize) -> Result<Source, NoEvent>
     }
 }
 
-// The event that a request names.
+// The event that a request names. Its kind is looked at here alone, so that an enum of kinds would be a second list of the events.
 impl TryFrom<Request> for Event {
     type Error = NoEvent;
 
