@@ -35,14 +35,14 @@ pub extern "C" fn move_bytes(memory: &mut [u8], from: usize, to: usize, n: usize
 
 #[unsafe(no_mangle)]
 pub extern "C" fn put_bytes(memory: &mut [u8], at: usize, payload: &[u8])
-    requires { (at + length payload.now ≤ length memory.old) × (length payload.now ≤ page_size) }
+    requires { at + length payload.now ≤ length memory.old }
 {
     memory::put_bytes(memory, at, payload);
 }
 
 #[unsafe(no_mangle)]
 pub extern "C" fn give_bytes(memory: &[u8], at: usize, n: usize, buffer: &mut [u8])
-    requires { (at + n ≤ length memory.now) × ((n ≤ length buffer.old) × (n ≤ page_size)) }
+    requires { (at + n ≤ length memory.now) × (n ≤ length buffer.old) }
 {
     memory::give_bytes(memory, at, n, buffer);
 }

@@ -1,16 +1,16 @@
 -- An array that is filled from the front, and the blocks that end a message.
-use mathlib.Core.Path.{◌≡◌, refl, ap, sym, ◌∙◌}
+use mathlib.Core.Path.{◌≡◌, refl, ap, ap₂, sym, ◌∙◌}
+use borrow.Rule.Slice.PartMut.{put_mid}
 use Prim.Native.Nat.{ℕ, suc, ◌+◌, ◌-◌, ◌*◌, ◌%◌, ◌^◌, ◌<◌, ◌≤◌}
 use mathlib.Core.List.{List, [], ◌∷◌, ◌++◌, append_assoc, append-nil}
-use native.Mathlib.Numerals.{add-one}
 use native.Mathlib.Omega.{arith}
-use lib.ListN.{length, get_or, take, set, replicate, length-append}
-use lib.Seq.{set_at, take-suc, take_at, take_all, get_or-drop, length-take-le}
+use lib.ListN.{length, take, drop, set, replicate, length-append}
+use lib.Seq.{set_at, take_at, drop_at}
 use Rattle.lists.specs.Bytes.{zeros}
 use Rattle.lists.specs.Numbers.{big}
 use Rattle.lists.proofs.Parts.{zeros_long, zeros_add}
 use Rattle.lists.proofs.Numbers.{big_long, big_low}
-use Rattle.blocks.specs.Blocks.{closing, rest, whole}
+use Rattle.blocks.specs.Blocks.{closing, rest}
 use Rattle.blocks.specs.declared.Tail.{Tail}
 use Rattle.blocks.specs.Tail.{filled, ending, tail_of}
 use Rattle.blocks.proofs.Fold.{rest_long}
@@ -40,12 +40,16 @@ filled_push n k x v e h =
     let s : n - length x ≡ suc (n - length (x ++ (v ∷ []))) = omega arith in
     rw s (set_at x 0 (replicate (n - length (x ++ (v ∷ []))) 0) v k e ∙ sym (append_assoc x (v ∷ []) (replicate (n - length (x ++ (v ∷ []))) 0)))
 
--- the next byte of p, after x
-pub filled_more : {b : List ℕ} (n k : ℕ) (x p : List ℕ) (i : ℕ) → b ≡ filled n (x ++ take i p) → i < length p → length x + i ≡ k → k < n
-    → set b k (get_or p i 0) ≡ filled n (x ++ take (i + 1) p)
-filled_more n k x p i e h q g =
-    let l : length (x ++ take i p) ≡ k = simp (length-append, length-take-le i p (omega arith)) q in
-    rw (e, add-one, take-suc p i 0 h, ← append_assoc) (filled_push n k (x ++ take i p) (get_or p i 0) l g)
+-- bytes put right after x
+pub filled_put : (n k e : ℕ) (x y : List ℕ) → length x ≡ k → length y ≡ e → k + e ≤ n → put_mid k e (filled n x) y ≡ filled n (x ++ y)
+unfolding filled zeros
+filled_put n k e x y p q h =
+    let l : length (x ++ y) ≡ k + e = length-append x y ∙ ap₂ (λ (i j : ℕ). i + j) p q in
+    rw (take_at x (replicate (n - length x) 0) k p, drop_at x (replicate (n - length x) 0) k p, append_assoc)
+    (ap (λ (z : List ℕ). x ++ (y ++ z)) (left (n - length x) (n - length (x ++ y)) (omega arith)))
+  where
+    left : (a b : ℕ) → a ≡ e + b → drop {A = ℕ} e (replicate a 0) ≡ replicate b 0
+    left a b g = ap (λ (k : ℕ). drop e (zeros k)) g ∙ ap (drop e) (sym (zeros_add e b)) ∙ (drop_at (zeros e) (zeros b) e (zeros_long e))
 
 -- zeros are there already
 pub filled_zeros : (n k : ℕ) (x : List ℕ) → length x + k ≤ n → filled n x ≡ filled n (x ++ zeros k)
@@ -66,23 +70,6 @@ pub ending_long : (x : List ℕ) (total : ℕ) → length (ending x total) ≡ l
 unfolding ending closing
 ending_long x total = simp (length-append, rest_long, zeros_long, big_long) (omega arith)
 
--- a byte of the rest of x
-pub rest_more : {b : List ℕ} (x : List ℕ) (i : ℕ) → b ≡ filled 128 (take i (rest x)) → whole (length x) + i < length x
-    → set b i (get_or x (whole (length x) + i) 0) ≡ filled 128 (take (i + 1) (rest x))
-unfolding rest
-rest_more {b} x i e h =
-    let l : length (rest x) ≡ length x % 64 = rest_long x in
-    ap (set b i) (sym (get_or-drop (whole (length x)) x i 0)) ∙ filled_more 128 i [] (rest x) i e (omega arith) (omega arith) (omega arith)
-
--- all of it, the byte that follows the message, and the zeros, which are there already
-pub marked : {b : List ℕ} (x : List ℕ) (i left n : ℕ) → b ≡ filled 128 (take i (rest x)) → length x % 64 ≡ left → i ≡ left → left + 1 + n ≤ 128
-    → set b left 128 ≡ filled 128 (((rest x ++ (128 ∷ [])) ++ zeros n) ++ [])
-marked x i left n e k g h =
-    let l : length (rest x) ≡ left = rest_long x ∙ k in
-    let t : take i (rest x) ≡ rest x = take_all i (rest x) (omega arith) in
-    rw (e, t, append-nil)
-    (filled_push 128 left (rest x) 128 l (omega arith) ∙ filled_zeros 128 n (rest x ++ (128 ∷ [])) (simp length-append (omega arith)))
-
 -- and the length in bits
 pub tail_is : (b x : List ℕ) (total count n : ℕ) → b ≡ filled 128 (((rest x ++ (128 ∷ [])) ++ zeros n) ++ big 8 (total * 8 % 2 ^ 64))
     → (119 - length x % 64) % 64 ≡ n → count ≡ length x % 64 + 9 + n → ◌≡◌ {A = Tail} (record { bytes = b; count = count }) (tail_of x total)
@@ -91,6 +78,26 @@ tail_is b x total count n e k g = cc (ended x total n k, ending_long x total, bi
 
 pub front_long : (x : List ℕ) (n : ℕ) → length ((rest x ++ (128 ∷ [])) ++ zeros n) ≡ length x % 64 + 1 + n
 front_long x n = simp (length-append, rest_long, zeros_long) (omega arith)
+
+-- what `ending` writes: the rest r, the byte that follows the message, and behind the zeros, which are there already, the length in bits
+pub ending_is : (x r y z : List ℕ) (total count : ℕ) → r ≡ rest x → y ≡ r → z ≡ big 8 (total * 8 % 2 ^ 64) → length x % 64 + 9 + (119 - length x % 64) % 64 ≡ count
+    → ◌≡◌ {A = Tail} (record { bytes = put_mid (count - 8) (count - (count - 8)) (set (put_mid 0 (length r) (zeros 128) y) (length r) 128) z; count = count }) (tail_of x total)
+unfolding zeros filled
+ending_is x r y z total count e f g h =
+    let n : ℕ = (119 - length x % 64) % 64 in
+    let l : length (rest x) ≡ length x % 64 = rest_long x in
+    let m : length r ≡ length x % 64 = ap length e ∙ l in
+    let first : put_mid 0 (length r) (zeros 128) y ≡ filled 128 (rest x) =
+    filled_put 128 0 (length r) [] y refl (ap length f) (omega arith) ∙ ap (filled 128) (f ∙ e) in
+    let mark : set (put_mid 0 (length r) (zeros 128) y) (length r) 128 ≡ filled 128 ((rest x ++ (128 ∷ [])) ++ zeros n) =
+    ap (λ (b : List ℕ). set b (length r) 128) first ∙ filled_push 128 (length r) (rest x) 128 (sym (ap length e)) (omega arith)
+    ∙ filled_zeros 128 n (rest x ++ (128 ∷ [])) (simp length-append (omega arith)) in
+    let last : put_mid (count - 8) (count - (count - 8)) (set (put_mid 0 (length r) (zeros 128) y) (length r) 128) z
+    ≡ filled 128 (((rest x ++ (128 ∷ [])) ++ zeros n) ++ big 8 (total * 8 % 2 ^ 64)) =
+    ap₂ (put_mid (count - 8) (count - (count - 8))) mark g
+    ∙ filled_put 128 (count - 8) (count - (count - 8)) ((rest x ++ (128 ∷ [])) ++ zeros n) (big 8 (total * 8 % 2 ^ 64))
+    (front_long x n ∙ omega arith) (big_long 8 (total * 8 % 2 ^ 64) ∙ omega arith) (omega arith) in
+    tail_is _ x total count n last refl (sym h)
 
 -- only the place in the last block counts
 pub closing_filled : (n k total : ℕ) → n % 64 ≡ k % 64 → closing n total ≡ closing k total

@@ -1,14 +1,16 @@
 -- Cutting into blocks of 64 bytes: what a fold over the blocks of a message does at a seam. For any hash.
 use mathlib.Core.Path.{◌≡◌, refl, ap, ap₂, sym, ◌∙◌}
-use Prim.Native.Nat.{ℕ, zero, suc, ◌+◌, ◌-◌, ◌*◌, ◌/◌, ◌%◌, ◌≤◌}
-use mathlib.Core.List.{List, [], ◌++◌, append_assoc}
-use native.Mathlib.Numerals.{add-one}
+use Prim.Native.Nat.{ℕ, zero, suc, ◌+◌, ◌*◌, ◌/◌, ◌%◌, ◌≤◌}
+use mathlib.Core.List.{List, [], ◌∷◌, ◌++◌, append_assoc}
 use native.Mathlib.Nat.{add-zero, add-suc, suc-mul}
 use native.Mathlib.Omega.{arith}
 use lib.ListN.{length, take, drop, length-append, length-drop, length-take, take-append-drop}
-use lib.Seq.{take-append-le, drop-append-le, drop-append-add}
+use lib.Seq.{take-append-le, drop-append-le, drop-append-add, drop-drop}
+use Rattle.std.specs.List.{fold}
+use Rattle.std.specs.Simd.{first_chunks}
+use Rattle.std.proofs.lemmas.List.Sums.{fold-append}
 use Rattle.lists.specs.Bytes.{part}
-use Rattle.lists.proofs.Parts.{part_long, part_lent}
+use Rattle.lists.proofs.Parts.{part_long}
 use Rattle.blocks.specs.Blocks.{block, whole, after, folded, rest}
 
 block_left : (x y : List ℕ) (i : ℕ) → i + 64 ≤ length x → block (x ++ y) i ≡ block x i
@@ -24,10 +26,14 @@ pub block_long : (x : List ℕ) (i : ℕ) → i + 64 ≤ length x → length (bl
 unfolding block
 block_long x i h = part_long x i 64 h
 
--- the part of a slice that the code lends
-pub block_lent : (p : List ℕ) (i : ℕ) → take (i + 64 - i) (drop i p) ≡ block p i
-unfolding block
-block_lent p i = part_lent p i (i + 64) 64 refl
+-- one chunk more is the block that starts there
+chunks_more : (m : List ℕ) (n : ℕ) → first_chunks 64 (suc n) m ≡ first_chunks 64 n m ++ (block m (n * 64) ∷ [])
+unfolding block part
+chunks_more m zero = refl
+chunks_more m (suc n) =
+    let e : 64 + n * 64 ≡ suc n * 64 = omega arith in
+    ap (λ (l : List (List ℕ)). take 64 m ∷ l)
+    (chunks_more (drop 64 m) n ∙ ap (λ (x : List ℕ). first_chunks 64 n (drop 64 m) ++ (take 64 x ∷ [])) (drop-drop (n * 64) 64 m ∙ ap (λ (k : ℕ). drop k m) e))
 
 -- what follows the whole blocks, and how long it is
 pub rest_long : (m : List ℕ) → length (rest m) ≡ length m % 64
@@ -88,7 +94,10 @@ module _ {S : Type 0} (f : S → List ℕ → S) where
       ∙ folded_append s (take k x) (drop k x ++ y) w
       ∙ ap (λ (t : S). folded f t (drop k x ++ y)) (sym (folded_whole s x))
 
-  -- one turn of a loop over the blocks
-  pub more_blocks : (s t r : S) (p : List ℕ) (n : ℕ) → t ≡ after f s p n → r ≡ f t (take (n * 64 + 64 - n * 64) (drop (n * 64) p)) → r ≡ after f s p (n + 1)
+  -- the fold over the chunks that are lent
+  pub fold_chunks : (s : S) (m : List ℕ) (n : ℕ) → fold f s (first_chunks 64 n m) ≡ after f s m n
   unfolding after
-  more_blocks s t r p n e g = rw add-one (g ∙ ap₂ f e (block_lent p (n * 64)))
+  fold_chunks s m zero = refl
+  fold_chunks s m (suc n) =
+      ap (fold f s) (chunks_more m n) ∙ fold-append f s (first_chunks 64 n m) (block m (n * 64) ∷ [])
+      ∙ ap (λ (t : S). f t (block m (n * 64))) (fold_chunks s m n)

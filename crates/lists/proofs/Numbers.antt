@@ -1,12 +1,13 @@
 -- Laws of numbers as bytes, over the width.
 use Prim.Native.Nat.{ℕ, zero, suc, ◌+◌, ◌*◌, ◌/◌, ◌%◌, ◌^◌, ◌≤◌, ◌<◌}
 use native.Mathlib.Omega.{arith}
-use native.Mathlib.Nat.{add_assoc, add-zero, mul_assoc, pow-suc, div-add-mod', mod-add-div'}
-use mathlib.Core.Path.{◌≡◌, refl, sym, ap, ◌∙◌}
+use native.Mathlib.Nat.{add_assoc, add-zero, mul_assoc, pow-suc, div-add-mod', mod-add-div', div-div-eq-div-mul}
+use mathlib.Core.Path.{◌≡◌, refl, sym, ap, ap₂, ◌∙◌}
 use mathlib.Core.List.{List, [], ◌∷◌, ◌++◌, append-nil}
 use native.Mathlib.Numerals.{add-one}
 use lib.ListN.{length, get_or, drop, length-append, length-drop, get_or-append}
 use lib.Seq.{get_or-append-add, get_or_at, get_or-drop, drop-cons, take-suc}
+use Rattle.std.specs.Int.{byte_at, bytes_high_first}
 use Rattle.lists.specs.Bytes.{part}
 use Rattle.lists.specs.Numbers.{little, little_at, big, big_at}
 use Rattle.lists.proofs.Parts.{part_at}
@@ -131,3 +132,19 @@ big_again (suc n) l at h b =
     let lo : (k * 256 + x) % 256 ≡ x = omega (arith, b (at + n)) in
     let hi : (k * 256 + x) / 256 ≡ k = omega (arith, b (at + n)) in
     rw (lo, hi, big_again n l at (omega arith) b, take-suc (drop at l) n 0 (omega (arith, length-drop at l)), get_or-drop)
+
+-- byte k of what is left without the lowest byte
+high_byte : (k x : ℕ) → byte_at (suc k) x ≡ byte_at k (x / 256)
+high_byte zero x = refl
+high_byte (suc k) x = let e : 256 ^ suc (suc k) ≡ 256 * 256 ^ suc k = omega (arith, pow-suc 256 (suc k)) in
+    ap (λ (y : ℕ). x / y % 256) e ∙ ap (λ (y : ℕ). y % 256) (sym (div-div-eq-div-mul x 256 (256 ^ suc k)))
+
+-- the bytes that `to_be_bytes` gives
+pub big_bytes : (n x : ℕ) → bytes_high_first n x ≡ big n x
+unfolding big
+big_bytes zero x = refl
+big_bytes (suc n) x = go n ∙ ap (λ (l : List ℕ). l ++ (x % 256 ∷ [])) (big_bytes n (x / 256))
+  where
+    go : (k : ℕ) → bytes_high_first (suc k) x ≡ bytes_high_first k (x / 256) ++ (x % 256 ∷ [])
+    go zero = refl
+    go (suc k) = ap₂ (λ (b : ℕ) (l : List ℕ). b ∷ l) (high_byte k x) (go k)

@@ -14,11 +14,7 @@ fn zero_bytes(memory: &mut [u8], at: usize, n: usize)
     requires { at + n ≤ length memory.old }
     ensures { memory.new ≡ sets memory.old at (zeros n) }
 {
-    let mut i: usize = 0;
-    while i < n {
-        memory[at + i] = 0;
-        i += 1;
-    }
+    memory[at..at + n].fill(0);
 }
 
 // Every byte of `count` pages, from page `first` on, becomes zero.
@@ -37,43 +33,27 @@ pub fn zero_page(memory: &mut [u8], page: usize)
     zero_bytes(memory, page * Geometry::PAGE, Geometry::PAGE);
 }
 
-// All of the lent bytes go to a place of memory.
-fn copy_in(memory: &mut [u8], at: usize, bytes: &[u8])
-    requires { at + length bytes.now ≤ length memory.old }
-    ensures { memory.new ≡ sets memory.old at bytes.now }
-{
-    let mut i = 0;
-    while i < bytes.len() {
-        memory[at + i] = bytes[i];
-        i += 1;
-    }
-}
-
-// n bytes, at most a page's worth, go from one place of memory to another. They go by way of an array of its own, since
-// LLVM sees of that alone that it shares no byte with memory: it makes one memmove of the two loops, and no array.
+// n bytes go from one place of memory to another, also where the two overlap; by way of an array
 pub fn move_bytes(memory: &mut [u8], from: usize, to: usize, n: usize)
     requires { (from + n ≤ length memory.old) × ((to + n ≤ length memory.old) × (n ≤ page_size)) }
     ensures { memory.new ≡ sets memory.old to (part memory.old from n) }
 {
     let mut held = [0u8; Geometry::PAGE];
-    copy_in(&mut held, 0, &memory[from..from + n]);
-    copy_in(memory, to, &held[..n]);
+    held[..n].copy_from_slice(&memory[from..from + n]);
+    memory[to..to + n].copy_from_slice(&held[..n]);
 }
 
-// All bytes of a payload, at most a page's worth, go to a place of memory; by way of an array, as above.
+// All bytes of a payload go to a place of memory.
 pub fn put_bytes(memory: &mut [u8], at: usize, payload: &[u8])
-    requires { (at + length payload.now ≤ length memory.old) × (length payload.now ≤ page_size) }
+    requires { at + length payload.now ≤ length memory.old }
     ensures { memory.new ≡ sets memory.old at payload.now }
 {
-    let n = payload.len();
-    let mut held = [0u8; Geometry::PAGE];
-    copy_in(&mut held, 0, payload);
-    copy_in(memory, at, &held[..n]);
+    memory[at..at + payload.len()].copy_from_slice(payload);
 }
 
 // n bytes of memory go to the front of the answer buffer; the rest of it stays.
 pub fn give_bytes(memory: &[u8], at: usize, n: usize, buffer: &mut [u8])
-    requires { (at + n ≤ length memory.now) × ((n ≤ length buffer.old) × (n ≤ page_size)) }
+    requires { (at + n ≤ length memory.now) × (n ≤ length buffer.old) }
     ensures { buffer.new ≡ sets buffer.old 0 (part memory.now at n) }
 {
     put_bytes(buffer, 0, &memory[at..at + n]);

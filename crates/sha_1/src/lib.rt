@@ -15,14 +15,10 @@ use geometry::Geometry;
 fn folded(h: rounds::Words, p: &[u8]) -> rounds::Words
     ensures { result ≡ Blocks.folded Rounds.compress h p.now }
 {
+    let (whole, _) = p.as_chunks::<{ blocks::BLOCK }>();
     let mut s = h;
-    let mut n: usize = 0;
-    let k = p.len() / blocks::BLOCK;
-    while n < k {
-        let at = n * blocks::BLOCK;
-        let e = at + blocks::BLOCK;
-        s = rounds::compress(s, &p[at..e]);
-        n += 1;
+    for b in whole {
+        s = rounds::compress(s, b);
     }
     s
 }
@@ -36,67 +32,55 @@ pub struct Hashing {
 }
 
 #[repr(C)]
-#[derive(Clone, Copy)]
+#[derive(Clone, Copy, PartialEq, Eq)]
 pub struct Digest {
     pub bytes: [u8; Geometry::DIGEST],
 }
 
+// FIPS 180-4, 5.3.1.
+const FIRST: rounds::Words = rounds::Words {
+    a: 0x67452301,
+    b: 0xefcdab89,
+    c: 0x98badcfe,
+    d: 0x10325476,
+    e: 0xc3d2e1f0,
+};
+
+#[tactic(auto, unfolding(crate::specs::Sha1::first, crate::specs::Parts::fresh))]
 pub fn start() -> Hashing
     ensures { result ≡ Parts.fresh }
 {
-    let words = rounds::Words {
-        a: 0x67452301,
-        b: 0xefcdab89,
-        c: 0x98badcfe,
-        d: 0x10325476,
-        e: 0xc3d2e1f0,
-    };
     Hashing {
-        words: words,
+        words: FIRST,
         size: 0,
     }
 }
 
 // The whole blocks of a part.
+#[tactic(auto, unfolding(crate::specs::Parts::taken_in))]
 pub fn taken(h: Hashing, part: &[u8]) -> Hashing
     ensures { result ≡ Parts.taken_in h part.now }
 {
-    let words = folded(h.words, part);
     let whole = part.len() / blocks::BLOCK * blocks::BLOCK;
     Hashing {
-        words: words,
-        size: std::num::wrapping_add_usize(h.size, whole),
+        words: folded(h.words, part),
+        size: h.size.wrapping_add(whole),
     }
-}
-
-fn low(x: u32) -> u8
-    ensures { result ≡ x % 256 }
-{
-    (x % 256) as u8
-}
-
-fn big4(x: u32) -> [u8; blocks::WORD]
-    ensures { result ≡ big Blocks.word_size x }
-{
-    let x1 = x / 256;
-    let x2 = x1 / 256;
-    let x3 = x2 / 256;
-    [low(x3), low(x2), low(x1), low(x)]
 }
 
 fn digest_of(w: rounds::Words) -> Digest
     ensures { result.bytes ≡ Sha1.bytes_of w }
 {
-    let a = big4(w.a);
-    let b = big4(w.b);
-    let c = big4(w.c);
-    let d = big4(w.d);
-    let e = big4(w.e);
-    let bytes = [
-        a[0], a[1], a[2], a[3], b[0], b[1], b[2], b[3], c[0], c[1], c[2], c[3], d[0], d[1], d[2],
-        d[3], e[0], e[1], e[2], e[3],
+    let words = [
+        w.a.to_be_bytes(),
+        w.b.to_be_bytes(),
+        w.c.to_be_bytes(),
+        w.d.to_be_bytes(),
+        w.e.to_be_bytes(),
     ];
-    Digest { bytes: bytes }
+    let mut bytes = [0u8; Geometry::DIGEST];
+    bytes.copy_from_slice(words.as_flattened());
+    Digest { bytes }
 }
 
 // The digest of what was taken in, followed by a last part of any length.
@@ -104,11 +88,8 @@ pub fn finished(h: Hashing, last: &[u8]) -> Digest
     ensures { result.bytes ≡ Parts.finished_of h last.now }
 {
     let words = folded(h.words, last);
-    let t = blocks::ending(last, std::num::wrapping_add_usize(h.size, last.len()));
-    let b = t.bytes;
-    let k = t.count;
-    let w = folded(words, &b[..k]);
-    digest_of(w)
+    let tail = blocks::ending(last, h.size.wrapping_add(last.len()));
+    digest_of(folded(words, &tail.bytes[..tail.count]))
 }
 
 pub fn hash(part: &[u8]) -> Digest
@@ -121,20 +102,8 @@ pub fn hash(part: &[u8]) -> Digest
 pub fn hash_pair(x: Digest, y: Digest) -> Digest
     ensures { result.bytes ≡ Sha1.sha1 (x.bytes ++ y.bytes) }
 {
-    let p = x.bytes;
-    let q = y.bytes;
-    let mut b = [0u8; 2 * Geometry::DIGEST];
-    let mut i: usize = 0;
-    while i < Geometry::DIGEST {
-        b[i] = p[i];
-        i += 1;
-    }
-    let mut j: usize = 0;
-    while j < Geometry::DIGEST {
-        b[Geometry::DIGEST + j] = q[j];
-        j += 1;
-    }
-    hash(&b)
+    let (p, q) = (x.bytes, y.bytes);
+    hash([p, q].as_flattened())
 }
 
 // Two theorems about the definitions, which no code could lose unnoticed.

@@ -5,4 +5,4 @@ use Rattle.blocks.proofs.word.Goals as goal
 
 pub returns : goal.returns
 unfolding big_at
-returns c = simp add-zero (omega arith)
+returns c = simp add-zero (omega (arith, c.from_be_bytes.ensures))

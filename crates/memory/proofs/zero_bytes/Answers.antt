@@ -1,15 +1,14 @@
-use mathlib.Core.Path.{refl}
-use lib.ListN.{length-set}
-use Rattle.lists.specs.Bytes.{zeros}
-use Rattle.lists.proofs.Parts.{zero_turn}
 use native.Mathlib.Omega.{arith}
+use Prim.Native.Nat.{ℕ}
+use mathlib.Core.Path.{ap, ◌∙◌}
+use lib.ListN.{replicate, length-take, length-drop}
+use Rattle.lists.specs.Bytes.{zeros}
+use Rattle.lists.proofs.Parts.{sets_back, zeros_long}
 use Rattle.memory.proofs.zero_bytes.Goals as goal
 
-pub loop-i-init : goal.loop-i-init
+pub returns : goal.returns
 unfolding zeros
-loop-i-init c = (omega arith, refl, omega arith)
-
-pub loop-i-preserved : goal.loop-i-preserved
-loop-i-preserved c =
-    let inv = c.loop-i.invariant in
-    (omega arith, zero_turn _ _ _ inv.1, simp length-set inv.2)
+returns c =
+    let s = c.args in
+    sets_back s.memory.now s.at s.n _ _ (zeros s.n) (omega arith)
+    (c.fill.ensures.after (λ y h. h) ∙ ap (λ (k : ℕ). replicate k 0) (simp (length-take, length-drop) (omega arith))) (zeros_long s.n) (omega arith)

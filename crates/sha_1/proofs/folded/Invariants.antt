@@ -1,10 +1,7 @@
-use Rattle.std.proofs.Common.{◌≡◌, ◌-◌, ◌≤◌}
-use Rattle.blocks.specs.Blocks.{after}
+use Rattle.std.proofs.Common.{◌≡◌, take}
+use Rattle.std.specs.List.{fold}
 use Rattle.rounds.specs.Rounds.{compress}
 use Rattle.sha_1.proofs.folded.Given as goal
 
-abbrev pub invariant-loop-n : goal.invariant-loop-n
-invariant-loop-n l = (l.n ≤ l.k) × (l.s ≡ after compress l.initial.s l.p l.n)
-
-abbrev pub decreases-loop-n : goal.decreases-loop-n
-decreases-loop-n l = l.k - l.n
+abbrev pub invariant-loop-b : goal.invariant-loop-b
+invariant-loop-b l = l.s ≡ fold compress l.initial.s (take l.b-index l.whole)

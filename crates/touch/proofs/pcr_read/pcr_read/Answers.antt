@@ -20,7 +20,7 @@ slice_bounds-put_bytes-end c = sym (pcr_long c.args.slot (slot_shape c.args.slot
 pub put_bytes-requires : goal.put_bytes-requires
 put_bytes-requires c =
     let l = pcr_long c.args.slot (slot_shape c.args.slot _ c.well_formed.1.1.0) c.args.index c.if-index-ge-PCRS.false in
-    (omega (arith, c.if-buffer-lt-DIGEST.false), omega arith)
+    omega (arith, c.if-buffer-lt-DIGEST.false)
 
 pub returns : goal.returns
 returns c = λ m.

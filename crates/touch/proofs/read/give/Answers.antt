@@ -1,4 +1,4 @@
-use Rattle.rules.proofs.Ranges.{range, range_fits}
+use Rattle.rules.proofs.Ranges.{range_fits}
 use Rattle.touch.proofs.Plans.{read_4, read_5, read_9, read_on}
 use Rattle.geometry.specs.Geometry.{is_range}
 use Prim.Native.Nat.{ℕ}
@@ -30,7 +30,7 @@ give_bytes-requires c =
     let a = c.args in
     let e = sym c.is_range.ensures ∙ c.if-not-is_range.false in
     let h = range_fits a.pages a.address a.n e in
-    (omega (arith, c.requires), (c.if-buffer-n.false, (range a.pages a.address a.n e).most))
+    (omega (arith, c.requires), c.if-buffer-n.false)
 
 pub returns : goal.returns
 returns c = λ mode f access pcrs e t.

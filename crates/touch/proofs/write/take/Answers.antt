@@ -1,4 +1,4 @@
-use Rattle.rules.proofs.Ranges.{range, range_fits}
+use Rattle.rules.proofs.Ranges.{range_fits}
 use Rattle.touch.proofs.Plans.{write_4, write_5, write_on}
 use Rattle.geometry.specs.Geometry.{is_range}
 use lib.ListN.{length}
@@ -24,7 +24,7 @@ put_bytes-requires c =
     let a = c.args in
     let e = sym c.is_range.ensures ∙ c.if-not-is_range.false in
     let h = range_fits a.pages a.address (length a.payload.now) e in
-    (omega (arith, c.requires), (range a.pages a.address (length a.payload.now) e).most)
+    omega (arith, c.requires)
 
 pub returns : goal.returns
 returns c = λ mode f access e t.

@@ -1,6 +1,0 @@
-use Rattle.rounds.specs.Rounds.{round, mix, constant}
-use Rattle.rounds.proofs.step2.Goals as goal
-
-pub returns : goal.returns
-unfolding round mix constant
-returns c = cc
