@@ -18,7 +18,7 @@ use Rattle.geometry.specs.Geometry.{slot_count, half_page, page_of, start_of, mo
 use Rattle.fields.specs.declared.Entry.{Entry}
 use Rattle.fields.specs.declared.Fields.{Fields}
 use Rattle.fields.specs.Rules.{keeps_rules}
-use Rattle.fields.specs.Fields.{fields_of, entry_places, entry_at}
+use Rattle.fields.specs.Fields.{entry_places, entry_at}
 use Rattle.fields.specs.Pages.{is_param_at, param_of}
 use Rattle.fields.proofs.Facts.{kept}
 use Rattle.fields.proofs.PageLaws.{param, param_page}
@@ -52,10 +52,6 @@ use Rattle.change.specs.Turns.{in_mode, turn_of, Settles}
 use Rattle.call.specs.declared.places.Sought.{Sought}
 use Rattle.call.specs.Sought.{sought_in}
 use Rattle.call.proofs.Entries.{entry_at_lem}
-
-pub param_alone : (x : Fields) → param_of (fields_of x.r 0 x.runs []) ≡ param_of x
-unfolding param_of
-param_alone x = refl
 
 module _ (s : State) (h : state_right s ≡ true) where
   -- entries in use have places
@@ -92,13 +88,13 @@ module _ (s : State) (h : state_right s ≡ true) where
       card_same : card_at (face_of s) k ≡ y.card
       card_same = card_at_lem s.slots k ∙ ap (λ (z : Slot). z.card) (sym e)
 
-      pub param_same : param_of (fields_of y.card.fields.r 0 y.card.fields.runs []) ≡ param_of (card_at (face_of s) k).fields
-      param_same = param_alone _ ∙ sym (ap (λ (x : Card). param_of x.fields) card_same)
+      pub param_same : param_of y.card.fields ≡ param_of (card_at (face_of s) k).fields
+      param_same = sym (ap (λ (x : Card). param_of x.fields) card_same)
 
-      pub param_ready : (y.card.fields.r ≤ 4) × ((any_below y.card.fields.r (is_param_at (fields_of y.card.fields.r 0 y.card.fields.runs [])) ≡ true)
-          × (param_of (fields_of y.card.fields.r 0 y.card.fields.runs []) < most_pages))
+      pub param_ready : (y.card.fields.r ≤ 4) × ((any_below y.card.fields.r (is_param_at y.card.fields) ≡ true)
+          × (param_of y.card.fields < most_pages))
       param_ready =
-          let q = subst (λ (x : Card). (x.fields.r ≤ 4) × (any_below x.fields.r (is_param_at (fields_of x.fields.r 0 x.fields.runs [])) ≡ true)) card_same
+          let q = subst (λ (x : Card). (x.fields.r ≤ 4) × (any_below x.fields.r (is_param_at x.fields) ≡ true)) card_same
           ((kept_in s h k l g).bounds.few_runs, has_param) in
           (q.0, (q.1, omega (arith, param_same, param_in, few_pages s h)))
 

@@ -15,7 +15,7 @@ use Rattle.lists.proofs.First.{first_le, first_at, first_before, first_hit, firs
 use Rattle.fields.specs.declared.Run.{Run}
 use Rattle.fields.specs.declared.Entry.{Entry}
 use Rattle.fields.specs.declared.Fields.{Fields}
-use Rattle.fields.specs.Fields.{fields_of, entry_places, entry_at, run_at}
+use Rattle.fields.specs.Fields.{entry_places, entry_at, run_at}
 use Rattle.fields.specs.Pages.{is_param_at, param_of}
 use Rattle.state.specs.declared.Card.{Card}
 use Rattle.std.specs.Prelude.{Some, None}
@@ -82,17 +82,13 @@ module _ (x : Card) (a : ℕ) (l : x.fields.e ≤ entry_places) where
   at_entry y h = let q = sym h ∙ entry_at_lem (ltb-true _ _ (at_below y h)) in cc
 
 -- the loop for the param page
-module _ (n : ℕ) (runs : List Run) where
-  abbrev fs : Fields
-  fs = fields_of n 0 runs []
-
-  pub param_hit : (i : ℕ) → i < n → i ≡ first_below (is_param_at fs) i → is_param_at fs i ≡ true → (get_or runs i (record { kind = 0; count = 0; first = 0 })).first ≡ param_of fs
+module _ (fs : Fields) where
+  pub param_hit : (i : ℕ) → i < fs.r → i ≡ first_below (is_param_at fs) i → is_param_at fs i ≡ true → (run_at fs i).first ≡ param_of fs
   unfolding param_of
-  param_hit i l h t = ap (λ (k : ℕ). (run_at fs k).first) (first_hit (is_param_at fs) n i l h t)
+  param_hit i l h t = ap (λ (k : ℕ). (run_at fs k).first) (first_hit (is_param_at fs) fs.r i l h t)
 
-  pub param_none : (i : ℕ) → n ≤ i → i ≤ n → i ≡ first_below (is_param_at fs) i → any_below n (is_param_at fs) ≡ true → ⊥
+  pub param_none : (i : ℕ) → fs.r ≤ i → i ≤ fs.r → i ≡ first_below (is_param_at fs) i → any_below fs.r (is_param_at fs) ≡ true → ⊥
   param_none i p q h t =
-      let w = any_find (is_param_at fs) n t in
-      let e : i ≡ n = omega arith in
-      let g : n ≡ first_below (is_param_at fs) n = first_end (is_param_at fs) n i q p h in
-      false≢true (sym (first_before (is_param_at fs) n w.at (omega (arith, w.below))) ∙ w.is)
+      let w = any_find (is_param_at fs) fs.r t in
+      let g : fs.r ≡ first_below (is_param_at fs) fs.r = first_end (is_param_at fs) fs.r i q p h in
+      false≢true (sym (first_before (is_param_at fs) fs.r w.at (omega (arith, w.below))) ∙ w.is)

@@ -62,13 +62,10 @@ fn call_entry(
     }
     let k = found.k;
     let slot = found.slot;
-    let fields = slot.card.fields;
-    let r = fields.r;
-    let runs = fields.runs;
     memory::move_bytes(
         memory,
         switch::kept_as(n, input),
-        places::param_start(r, runs),
+        places::param_start(&slot.card.fields),
         n,
     );
     let running = switch::entering(k, output, m);

@@ -1,15 +1,15 @@
 // Which slot and entry a call names, and where the param page is.
-ghost use Rattle.std.specs.Prelude.{◌≡◌, true, ◌&&◌, [], ◌≤◌, ◌<◌, ltb};
+ghost use Rattle.std.specs.Prelude.{◌≡◌, true, ◌&&◌, ◌≤◌, ◌<◌, ltb};
 ghost use Rattle.lists.specs.Below.{any_below};
 ghost use Rattle.geometry.specs.Geometry.{start_of, most_pages};
-ghost use Rattle.fields.specs.Fields.{fields_of, run_places, entry_places};
+ghost use Rattle.fields.specs.Fields.{run_places, entry_places};
 ghost use Rattle.fields.specs.Pages.{is_param_at, param_of};
 ghost use Rattle.state.specs.Face.{face_of};
 ghost use Rattle.wellformed.specs.WellFormed.{state_right};
 ghost use Rattle.rules.specs.Tests.{under_mark, entry_of, slot_for};
 ghost use Rattle.call.specs.Sought.{sought_in};
 
-use fields::{Fields, Run};
+use fields::Fields;
 use geometry::Geometry;
 use state::{Slot, State};
 
@@ -54,26 +54,22 @@ pub fn slot_for(s: State, mark: u64, address: usize) -> Sought
 }
 
 // The param page of runs that have one.
-pub fn param_of(n: usize, runs: [Run; Fields::RUNS]) -> usize
-    requires { (n ≤ run_places) × (any_below n (is_param_at (fields_of n 0 runs [])) ≡ true) }
-    ensures { result ≡ param_of (fields_of n 0 runs []) }
+pub fn param_of(f: &Fields) -> usize
+    requires { (f.now.r ≤ run_places) × (any_below f.now.r (is_param_at f.now) ≡ true) }
+    ensures { result ≡ param_of f.now }
 {
-    let mut i: usize = 0;
-    while i < n {
-        let x = runs[i];
+    for x in &f.runs[..f.r] {
         if x.kind == 4 {
             return x.first as usize;
         }
-        i += 1;
     }
     0
 }
 
 // Where the param page begins.
-pub fn param_start(n: usize, runs: [Run; Fields::RUNS]) -> usize
-    requires { (n ≤ run_places) × ((any_below n (is_param_at (fields_of n 0 runs [])) ≡ true) × (param_of (fields_of n 0 runs []) < most_pages)) }
-    ensures { result ≡ start_of (param_of (fields_of n 0 runs [])) }
+pub fn param_start(f: &Fields) -> usize
+    requires { (f.now.r ≤ run_places) × ((any_below f.now.r (is_param_at f.now) ≡ true) × (param_of f.now < most_pages)) }
+    ensures { result ≡ start_of (param_of f.now) }
 {
-    let page = param_of(n, runs);
-    page * Geometry::PAGE
+    param_of(f) * Geometry::PAGE
 }

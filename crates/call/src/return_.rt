@@ -21,10 +21,7 @@ pub fn return_(s: State, slot: Slot, memory: &mut [u8], k: usize) -> Change
     let left = switch::leaving(held);
     let was = left.was;
     let rest = left.rest;
-    let fields = slot.card.fields;
-    let n = fields.r;
-    let runs = fields.runs;
-    let from = places::param_start(n, runs) + Geometry::HALF;
+    let from = places::param_start(&slot.card.fields) + Geometry::HALF;
     memory::move_bytes(memory, from, was.out, was.length);
     change::turned(Answer::Left(was.length), Turn::Leaves(rest))
 }

@@ -4,8 +4,12 @@ use native.Mathlib.Numerals.{add-one}
 use native.Mathlib.Omega.{arith}
 use mathlib.Core.Path.{◌≡◌, refl, sym, ap, ◌∙◌}
 use mathlib.Core.Bool.{Bool, true, false, ◌&&◌, ◌||◌, false≢true}
+use mathlib.Core.List.{List}
 use lib.Bits.{bit_or}
 use lib.Dec.{leb, eqb, leb-zero}
+use lib.ListN.{get_or}
+use lib.Seq.{get_or-take, get_or-drop}
+use borrow.Rule.Slice.PartMut.{mid_of}
 use Rattle.lists.specs.Below.{all_below, any_below, sum_below}
 use Rattle.lists.proofs.Logic.{and_l, and_r, both, decided}
 use Rattle.lists.proofs.All.{all_none, all_more, all_step, all_at, all_end, or_zero}
@@ -155,6 +159,10 @@ module _ (f : Fields) (i least : ℕ) (h : Entries f i least) where
   entries_end a b = rw (← all_end (entry_right_at f) f.e i true a b h.each, ← chain_end (later_at f) f.e i true a b h.rise)
 
 -- ---- unused places, three fields at once
+
+-- a place of what follows the first r
+pub left_at : {A : Type 0} (xs : List A) (r k j : ℕ) (d : A) → j < k → get_or (mid_of r k xs) j d ≡ get_or xs (r + j) d
+left_at xs r k j d h = rw (get_or-take, get_or-drop)
 
 three : (a b c x y z : Bool) → (a && x) && ((b && y) && (c && z)) ≡ (a && (b && c)) && (x && (y && z))
 three false b c x y z = refl

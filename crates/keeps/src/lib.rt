@@ -1,11 +1,11 @@
 // The rules on a manifest's fields, tested: each rule at one place, for the reader, the writer and the state's well-formedness.
-// The inner tests take arrays and counts, not the whole record, so that nothing is copied; runs and entries are gone over once each.
+// The fields are lent, so that nothing is copied; runs and entries are gone over once each.
 #![tactic(auto)]
 
-ghost use Rattle.std.specs.Prelude.{◌≡◌, ◌&&◌, [], ◌≤◌, ◌<◌, leb, eqb};
-ghost use Rattle.lists.specs.Below.{pick, all_below};
+ghost use Rattle.std.specs.Prelude.{◌≡◌, ◌&&◌, [], ◌≤◌, ◌<◌, leb};
+ghost use Rattle.lists.specs.Below.{pick};
 ghost use Rattle.fields.specs.Fields.{fields_of, end_of};
-ghost use Rattle.fields.specs.Rules.{counts_right, is_param, run_right, runs_right, is_code, holds, in_code, lengths_right, entries_right, run_free_at, entry_free_at, keeps_rules};
+ghost use Rattle.fields.specs.Rules.{counts_right, is_param, run_right, runs_right, is_code, holds, in_code, lengths_right, entries_right, unused_zero, keeps_rules};
 
 use fields::{Entry, Fields, Run};
 use geometry::Geometry;
@@ -52,9 +52,9 @@ fn if_param(x: Run, n: usize) -> usize
 }
 
 // Each run by itself, and what is asked of all: `at` is where the run before ended.
-fn runs_right(r: usize, runs: [Run; Fields::RUNS]) -> bool
-    requires { r ≤ 4 }
-    ensures { result ≡ runs_right (fields_of r 0 runs []) }
+fn runs_right(f: &Fields) -> bool
+    requires { f.now.r ≤ 4 }
+    ensures { result ≡ runs_right f.now }
 {
     let mut each = true;
     let mut rise = true;
@@ -63,17 +63,14 @@ fn runs_right(r: usize, runs: [Run; Fields::RUNS]) -> bool
     let mut code = false;
     let mut params: usize = 0;
     let mut pages: usize = 0;
-    let mut i: usize = 0;
-    while i < r {
-        let x = runs[i];
-        each = each & run_right(x);
-        rise = rise & (at <= x.first as usize);
-        at = run_end(x);
+    for x in &f.runs[..f.r] {
+        each &= run_right(*x);
+        rise &= at <= x.first as usize;
+        at = run_end(*x);
         held += x.count as usize;
-        code = code | (x.kind == 1);
-        params += if_param(x, 1);
-        pages += if_param(x, x.count as usize);
-        i += 1;
+        code |= x.kind == 1;
+        params += if_param(*x, 1);
+        pages += if_param(*x, x.count as usize);
     }
     let few = held <= Geometry::MOST_HELD;
     each & (rise & (few & (code & ((params == 1) & (pages == 1)))))
@@ -89,29 +86,26 @@ fn code_holds(x: Run, page: usize) -> bool
 
 // Whether ok holds and the page is in a code run: the one search of the two below, which goes no further than the run that has the page. It counts
 // all places, and not the used ones alone, since a compiler keeps the runs in registers where it knows the number of turns.
-fn code_if(ok: bool, r: usize, runs: [Run; Fields::RUNS], page: usize) -> bool
-    requires { r ≤ 4 }
-    ensures { result ≡ ok && in_code (fields_of r 0 runs []) page }
+fn code_if(ok: bool, f: &Fields, page: usize) -> bool
+    requires { f.now.r ≤ 4 }
+    ensures { result ≡ ok && in_code f.now page }
 {
     if !ok {
         return false;
     }
-    let mut i: usize = 0;
-    while i < Fields::RUNS {
-        let x = runs[i];
-        if (i < r) & code_holds(x, page) {
+    for (i, x) in f.runs.iter().enumerate() {
+        if (i < f.r) & code_holds(*x, page) {
             return true;
         }
-        i += 1;
     }
     false
 }
 
-pub fn in_code(r: usize, runs: [Run; Fields::RUNS], page: usize) -> bool
-    requires { r ≤ 4 }
-    ensures { result ≡ in_code (fields_of r 0 runs []) page }
+pub fn in_code(f: &Fields, page: usize) -> bool
+    requires { f.now.r ≤ 4 }
+    ensures { result ≡ in_code f.now page }
 {
-    code_if(true, r, runs, page)
+    code_if(true, f, page)
 }
 
 pub fn lengths_right(x: Entry) -> bool
@@ -121,90 +115,55 @@ pub fn lengths_right(x: Entry) -> bool
 }
 
 // Each entry by itself, and that they rise: `least` is one more than the address before.
-fn entries_right(
-    r: usize,
-    e: usize,
-    runs: [Run; Fields::RUNS],
-    entries: [Entry; Fields::ENTRIES],
-) -> bool
-    requires { (r ≤ 4) × (e ≤ 8) }
-    ensures { result ≡ entries_right (fields_of r e runs entries) }
+fn entries_right(f: &Fields) -> bool
+    requires { (f.now.r ≤ 4) × (f.now.e ≤ 8) }
+    ensures { result ≡ entries_right f.now }
 {
     let mut least: usize = 0;
-    let mut i: usize = 0;
-    while i < e {
-        let x = entries[i];
+    for x in &f.entries[..f.e] {
         let at = x.address as usize;
-        let lengths = lengths_right(x);
-        if !code_if(lengths & (least <= at), r, runs, Geometry::page_of(at)) {
+        let lengths = lengths_right(*x);
+        if !code_if(lengths & (least <= at), f, Geometry::page_of(at)) {
             return false;
         }
         least = at + 1;
-        i += 1;
     }
     true
 }
 
 // ---- unused places: each field by itself, so that a compiler takes the places as whole words
-pub fn runs_unused(r: usize, runs: [Run; Fields::RUNS]) -> bool
-    requires { r ≤ 4 }
-    ensures { result ≡ all_below 4 (run_free_at (fields_of r 0 runs [])) }
+pub fn unused_zero(f: &Fields) -> bool
+    requires { (f.now.r ≤ 4) × (f.now.e ≤ 8) }
+    ensures { result ≡ unused_zero f.now }
 {
     let mut kind: u8 = 0;
     let mut count: u16 = 0;
     let mut first: u32 = 0;
-    let mut i = r;
-    while i < Fields::RUNS {
-        let x = runs[i];
-        kind = kind | x.kind;
-        count = count | x.count;
-        first = first | x.first;
-        i += 1;
+    for run in &f.runs[f.r..] {
+        kind |= run.kind;
+        count |= run.count;
+        first |= run.first;
     }
-    (kind == 0) & ((count == 0) & (first == 0))
-}
-
-pub fn entries_unused(e: usize, entries: [Entry; Fields::ENTRIES]) -> bool
-    requires { e ≤ 8 }
-    ensures { result ≡ all_below 8 (entry_free_at (fields_of 0 e [] entries)) }
-{
     let mut address: u32 = 0;
     let mut input: u16 = 0;
     let mut output: u16 = 0;
-    let mut i = e;
-    while i < Fields::ENTRIES {
-        let x = entries[i];
-        address = address | x.address;
-        input = input | x.input;
-        output = output | x.output;
-        i += 1;
+    for entry in &f.entries[f.e..] {
+        address |= entry.address;
+        input |= entry.input;
+        output |= entry.output;
     }
-    (address == 0) & ((input == 0) & (output == 0))
+    ((kind == 0) & ((count == 0) & (first == 0))) & ((address == 0) & ((input == 0) & (output == 0)))
 }
 
 // ---- every rule
-pub fn keeps(
-    r: usize,
-    e: usize,
-    runs: [Run; Fields::RUNS],
-    entries: [Entry; Fields::ENTRIES],
-) -> bool
-    ensures { result ≡ keeps_rules (fields_of r e runs entries) }
+pub fn keeps_rules(f: &Fields) -> bool
+    ensures { result ≡ keeps_rules f.now }
 {
-    if !counts_right(r, e) {
+    if !counts_right(f.r, f.e) {
         return false;
     }
-    let a = runs_right(r, runs);
-    let b = entries_right(r, e, runs, entries);
-    let free = runs_unused(r, runs);
-    let spare = entries_unused(e, entries);
-    a & (b & (free & spare))
-}
-
-pub fn keeps_rules(f: Fields) -> bool
-    ensures { result ≡ keeps_rules f }
-{
-    let runs = f.runs;
-    let entries = f.entries;
-    keeps(f.r, f.e, runs, entries)
+    let runs = runs_right(f);
+    let entries = entries_right(f);
+    let unused = unused_zero(f);
+    runs & (entries & unused)
 }

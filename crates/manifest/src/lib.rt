@@ -217,22 +217,22 @@ pub fn read(bytes: &[u8]) -> Reading
         };
         runs[k] = y;
     }
-    if !keeps::keeps(r, e, runs, entries) {
-        return refused();
-    }
     let fields = Fields {
         r,
         e,
         runs,
         entries,
     };
+    if !keeps::keeps_rules(&fields) {
+        return refused();
+    }
     Reading { refusal: 0, fields }
 }
 
 pub fn write(f: Fields, buffer: &mut [u8]) -> Written
     ensures { wrote result buffer.new ≡ write_manifest f buffer.old }
 {
-    if !keeps::keeps_rules(f) {
+    if !keeps::keeps_rules(&f) {
         return Written::Refused(RULE_BROKEN);
     }
     let r = f.r;

@@ -7,7 +7,6 @@ use mathlib.Core.List.{[]}
 use lib.ListN.{length, get_or}
 use Rattle.lists.proofs.Logic.{decided}
 use Rattle.geometry.specs.Geometry.{most_pages, slot_count, pcr_count, digest_size}
-use Rattle.fields.specs.Fields.{fields_of}
 use Rattle.fields.specs.declared.Fields.{Fields}
 use Rattle.fields.specs.Rules.{in_code}
 use Rattle.fields.proofs.Facts.{Kept, kept}
@@ -62,11 +61,6 @@ module _ (s : State) (h : state_right s ≡ true) where
   -- the same, of a slot that the code has
   pub few_runs_in : (k : ℕ) (x : Slot) → k < slot_count → IsSlot s k x → x.card.fields.r ≤ 4
   few_runs_in k x l e = rw (card_is s k x e) (few_runs k l)
-
--- code pages go by the runs alone
-pub code_alone : (x : Fields) (p : ℕ) → in_code (fields_of x.r 0 x.runs []) p ≡ in_code x p
-unfolding in_code
-code_alone x p = refl
 
 -- a µPCR has its length
 pub pcr_long : (x : Slot) → SlotShape x → (i : ℕ) → i < pcr_count → length (get_or x.pcrs i no_pcr).bytes ≡ digest_size

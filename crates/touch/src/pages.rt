@@ -29,10 +29,7 @@ pub fn in_code_of(slot: Slot, page: usize) -> bool
     requires { slot.card.fields.r ≤ run_places }
     ensures { result ≡ in_code slot.card.fields page }
 {
-    let fields = slot.card.fields;
-    let r = fields.r;
-    let runs = fields.runs;
-    keeps::in_code(r, runs, page)
+    keeps::in_code(&slot.card.fields, page)
 }
 
 // The rule, of a page whose owner is v. The slot is the one that runs.

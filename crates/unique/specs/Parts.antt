@@ -25,9 +25,7 @@ use Rattle.keeps.specs.contracts.run_end as keeps_run_end
 use Rattle.keeps.specs.contracts.run_right as keeps_run_right
 use Rattle.keeps.specs.contracts.in_code as keeps_in_code
 use Rattle.keeps.specs.contracts.lengths_right as keeps_lengths_right
-use Rattle.keeps.specs.contracts.runs_unused as keeps_runs_unused
-use Rattle.keeps.specs.contracts.entries_unused as keeps_entries_unused
-use Rattle.keeps.specs.contracts.keeps as keeps_keeps
+use Rattle.keeps.specs.contracts.unused_zero as keeps_unused_zero
 use Rattle.keeps.specs.contracts.keeps_rules as keeps_keeps_rules
 use Rattle.manifest.specs.contracts.read as manifest_read
 use Rattle.manifest.specs.contracts.write as manifest_write
@@ -79,9 +77,7 @@ pub record Parts : Type 0 where
   pub keeps_run_right_one : OneOutcome keeps_run_right.ended (λ κs a z e. told ((keeps_run_right.clauses w₀.𝓛 w₀.𝓜.mem w₀.𝓡.run κs a).ensures tt z e) (r_last _))
   pub keeps_in_code_one : OneOutcome keeps_in_code.ended (λ κs a z e. told ((keeps_in_code.clauses w₀.𝓛 w₀.𝓜.mem w₀.𝓡.run κs a).ensures tt z e) (r_last _))
   pub keeps_lengths_right_one : OneOutcome keeps_lengths_right.ended (λ κs a z e. told ((keeps_lengths_right.clauses w₀.𝓛 w₀.𝓜.mem w₀.𝓡.run κs a).ensures tt z e) (r_last _))
-  pub keeps_runs_unused_one : OneOutcome keeps_runs_unused.ended (λ κs a z e. told ((keeps_runs_unused.clauses w₀.𝓛 w₀.𝓜.mem w₀.𝓡.run κs a).ensures tt z e) (r_last _))
-  pub keeps_entries_unused_one : OneOutcome keeps_entries_unused.ended (λ κs a z e. told ((keeps_entries_unused.clauses w₀.𝓛 w₀.𝓜.mem w₀.𝓡.run κs a).ensures tt z e) (r_last _))
-  pub keeps_keeps_one : OneOutcome keeps_keeps.ended (λ κs a z e. told ((keeps_keeps.clauses w₀.𝓛 w₀.𝓜.mem w₀.𝓡.run κs a).ensures tt z e) (r_last _))
+  pub keeps_unused_zero_one : OneOutcome keeps_unused_zero.ended (λ κs a z e. told ((keeps_unused_zero.clauses w₀.𝓛 w₀.𝓜.mem w₀.𝓡.run κs a).ensures tt z e) (r_last _))
   pub keeps_keeps_rules_one : OneOutcome keeps_keeps_rules.ended (λ κs a z e. told ((keeps_keeps_rules.clauses w₀.𝓛 w₀.𝓜.mem w₀.𝓡.run κs a).ensures tt z e) (r_last _))
   pub manifest_read_one : OneOutcome manifest_read.ended (λ κs a z e. told ((manifest_read.clauses w₀.𝓛 w₀.𝓜.mem w₀.𝓡.run κs a).ensures tt z e) (r_last _))
   pub manifest_write_one : OneOutcome manifest_write.ended (λ κs a z e. told ((manifest_write.clauses w₀.𝓛 w₀.𝓜.mem w₀.𝓡.run κs a).ensures tt z e) (r_last _))

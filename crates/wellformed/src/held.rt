@@ -2,13 +2,12 @@
 ghost use Rattle.std.specs.Prelude.{◌≡◌, ◌&&◌, eqb};
 ghost use Rattle.lists.specs.Below.{all_below};
 ghost use Rattle.geometry.specs.Geometry.{digest_size};
-ghost use Rattle.fields.specs.Fields.{fields_of};
 ghost use Rattle.fields.specs.Rules.{keeps_rules};
 ghost use Rattle.fields.specs.Pages.{pages_under};
 ghost use Rattle.wellformed.specs.WellFormed.{fields_zero, byte_zero_at, pcrs_zero};
 ghost use Rattle.wellformed.specs.Tests.{slot_right};
 
-use fields::{Entry, Fields, Run};
+use fields::Fields;
 use geometry::Geometry;
 use sha_1::Digest;
 use state::Slot;
@@ -39,49 +38,33 @@ fn pcrs_bits(pcrs: [Digest; Geometry::PCRS]) -> u8
     bits
 }
 
-fn free_right(
-    mark: u64,
-    r: usize,
-    e: usize,
-    runs: [Run; Fields::RUNS],
-    entries: [Entry; Fields::ENTRIES],
-    pcrs: [Digest; Geometry::PCRS],
-) -> bool
-    ensures { result ≡ (eqb mark 0 && fields_zero (fields_of r e runs entries)) && pcrs_zero pcrs }
+fn free_right(mark: u64, f: &Fields, pcrs: [Digest; Geometry::PCRS]) -> bool
+    ensures { result ≡ (eqb mark 0 && fields_zero f.now) && pcrs_zero pcrs }
 {
-    let a = keeps::runs_unused(0, runs);
-    let b = keeps::entries_unused(0, entries);
-    let c = pcrs_bits(pcrs);
-    ((mark == 0) & (((r == 0) & (e == 0)) & (a & b))) & (c == 0)
+    if !((mark == 0) & ((f.r == 0) & (f.e == 0))) {
+        return false;
+    }
+    let unused = keeps::unused_zero(f);
+    let bits = pcrs_bits(pcrs);
+    unused & (bits == 0)
 }
 
 // ---- registered slots
 // Runs rise, so that the last one ends highest.
-fn used_right(
-    r: usize,
-    e: usize,
-    runs: [Run; Fields::RUNS],
-    entries: [Entry; Fields::ENTRIES],
-    top: usize,
-) -> bool
-    ensures { result ≡ keeps_rules (fields_of r e runs entries) && pages_under (fields_of r e runs entries) top }
+fn used_right(f: &Fields, top: usize) -> bool
+    ensures { result ≡ keeps_rules f.now && pages_under f.now top }
 {
-    if !keeps::keeps(r, e, runs, entries) {
+    if !keeps::keeps_rules(f) {
         return false;
     }
-    let x = runs[r - 1];
-    keeps::run_end(x) <= top
+    keeps::run_end(f.runs[f.r - 1]) <= top
 }
 
 pub fn slot_right(x: Slot, top: usize) -> bool
     ensures { result ≡ slot_right x top }
 {
-    let f = x.card.fields;
-    let runs = f.runs;
-    let entries = f.entries;
     if x.card.registered {
-        return used_right(f.r, f.e, runs, entries, top);
+        return used_right(&x.card.fields, top);
     }
-    let pcrs = x.pcrs;
-    free_right(x.card.mark, f.r, f.e, runs, entries, pcrs)
+    free_right(x.card.mark, &x.card.fields, x.pcrs)
 }

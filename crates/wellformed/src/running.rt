@@ -1,12 +1,12 @@
 // The mode and the running record: zero in legacy mode; in secure mode of the slot that runs, with an entry's output length and an open place for it.
-ghost use Rattle.std.specs.Prelude.{◌≡◌, [], ◌≤◌};
+ghost use Rattle.std.specs.Prelude.{◌≡◌, ◌≤◌};
 ghost use Rattle.lists.specs.Below.{any_below};
 ghost use Rattle.geometry.specs.Geometry.{most_pages};
-ghost use Rattle.fields.specs.Fields.{fields_of, entry_places};
+ghost use Rattle.fields.specs.Fields.{entry_places};
 ghost use Rattle.wellformed.specs.WellFormed.{running_zero, output_at};
 ghost use Rattle.wellformed.specs.Tests.{out_test, running_test, mode_test};
 
-use fields::{Entry, Fields};
+use fields::Fields;
 use geometry::Geometry;
 use state::{Card, Mode, Running};
 
@@ -16,18 +16,11 @@ fn running_zero(x: Running) -> bool
     (x.slot == 0) & ((x.out == 0) & (x.length == 0))
 }
 
-fn any_output(e: usize, entries: [Entry; Fields::ENTRIES], n: usize) -> bool
-    requires { e ≤ entry_places }
-    ensures { result ≡ any_below e (output_at (fields_of 0 e [] entries) n) }
+fn any_output(f: &Fields, n: usize) -> bool
+    requires { f.now.e ≤ entry_places }
+    ensures { result ≡ any_below f.now.e (output_at f.now n) }
 {
-    let mut ok = false;
-    let mut i: usize = 0;
-    while i < e {
-        let x = entries[i];
-        ok = ok | (x.output as usize == n);
-        i += 1;
-    }
-    ok
+    f.entries[..f.e].iter().any(|x| x.output as usize == n)
 }
 
 fn out_right(owner: &[u8; Geometry::MOST_PAGES], pages: usize, a: usize, n: usize) -> bool
@@ -54,9 +47,7 @@ fn secure_right(
     requires { (pages ≤ most_pages) × (card.fields.e ≤ entry_places) }
     ensures { result ≡ running_test k x card owner.now pages }
 {
-    let f = card.fields;
-    let entries = f.entries;
-    let some = any_output(f.e, entries, x.length);
+    let some = any_output(&card.fields, x.length);
     let out = out_right(owner, pages, x.out, x.length);
     ((x.slot == k) & ((k < Geometry::SLOTS) & card.registered)) & (some & out)
 }

@@ -48,15 +48,15 @@ loop-k-preserved c = let l = c.loop-k in
       (omega arith, (placed_back 4 l.k n.r (run_in_at a) no_run _ l.invariant.1.1.0 (omega arith) (omega arith) (omega arith) y.0, down_more (λ j. blank_at a j ≡ true) l.k n.r l.invariant.1.1.1 y.1)),
     )
 
-pub returns-then-not-keeps : goal.returns-then-not-keeps
-returns-then-not-keeps c = let l = c.loop-k in
+pub returns-then-not-keeps_rules : goal.returns-then-not-keeps_rules
+returns-then-not-keeps_rules c = let l = c.loop-k in
     let a = c.args.bytes.now in
-    c.refused-then-not-keeps.ensures
+    c.refused-then-not-keeps_rules.ensures
     ∙ out_broken a _ _ l.invariant.0.0 _ _ (placed_end 4 l.k _ _ no_run l.invariant.1.1.0 (omega arith)) l.invariant.0.1
-    (sym c.keeps.ensures ∙ c.if-not-keeps.true)
+    (sym c.keeps_rules.ensures ∙ c.if-not-keeps_rules.true)
 
 pub returns : goal.returns
 returns c = let l = c.loop-k in
     let a = c.args.bytes.now in
     out_yes a _ _ l.invariant.0.0 _ _ (placed_end 4 l.k _ _ no_run l.invariant.1.1.0 (omega arith)) l.invariant.0.1
-    (λ j p q. l.invariant.1.1.1 j (omega arith) q) (sym c.keeps.ensures ∙ c.if-not-keeps.false)
+    (λ j p q. l.invariant.1.1.1 j (omega arith) q) (sym c.keeps_rules.ensures ∙ c.if-not-keeps_rules.false)

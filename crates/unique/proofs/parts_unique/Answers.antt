@@ -30,9 +30,7 @@ returns c = record {
   keeps_run_right_one = λ κs a z z' w w'. result;
   keeps_in_code_one = λ κs a z z' w w'. result;
   keeps_lengths_right_one = λ κs a z z' w w'. result;
-  keeps_runs_unused_one = λ κs a z z' w w'. result;
-  keeps_entries_unused_one = λ κs a z z' w w'. result;
-  keeps_keeps_one = λ κs a z z' w w'. result;
+  keeps_unused_zero_one = λ κs a z z' w w'. result;
   keeps_keeps_rules_one = λ κs a z z' w w'. result;
   manifest_read_one = λ κs a z z' w w'. result;
   manifest_write_one = λ κs a z z' w w' p q. let o = both p q in ((λ i. (o i).answer), λ i. (tt, ((o i).buffer, tt)));
