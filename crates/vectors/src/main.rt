@@ -6,219 +6,102 @@
 //   bytes 12 on  a digest, or the name of a line, with spaces
 #![tactic(auto)]
 
-ghost use Rattle.std.specs.Prelude.{◌<◌, ◌≤◌, length};
-
 use geometry::Geometry;
+use sha_1::{Digest, Hashing};
 use std::io::{Read, Write};
 
 const HEADER: usize = 32;
 
-// Where the third of three digests begins.
-const THIRD: usize = 2 * Geometry::DIGEST;
+const NAMED: usize = HEADER - Geometry::DIGEST;
+
+const MOST: usize = 65536;
 
 #[derive(Clone, Copy)]
 struct Run {
-    hashing: sha_1::Hashing,
-    digest: sha_1::Digest,
+    hashing: Hashing,
+    digest: Digest,
     count: u64,
     wrong: u64,
 }
 
-#[derive(Clone, Copy)]
-struct Header {
-    bytes: [u8; HEADER],
-    whole: bool,
+// The next header; none where the input ends before it is whole, or reading fails.
+fn next_header<R: Read>(input: &mut R) -> Option<[u8; HEADER]> {
+    let mut header = [0u8; HEADER];
+    input.read_exact(&mut header).ok()?;
+    Some(header)
 }
 
-// Reads until the buffer is full, the input ends or reading fails, and counts the bytes.
-fn read_full<R: Read>(input: &mut R, buf: &mut [u8]) -> usize
-    ensures { result ≤ length buf.new }
-{
-    let mut done = 0;
-    while done < buf.len() {
-        let n = match input.read(&mut buf[done..]) {
-            Ok(n) => n,
-            Err(_) => 0,
-        };
-        if n == 0 {
-            break;
+fn digest_in(header: &[u8; HEADER]) -> Digest {
+    let mut bytes = [0u8; Geometry::DIGEST];
+    bytes.copy_from_slice(&header[NAMED..]);
+    Digest { bytes }
+}
+
+// One checkpoint of NIST's Monte Carlo test: each message is the last three digests.
+fn thousand(seed: Digest) -> Digest {
+    let seed = seed.bytes;
+    let mut last = [seed; 3];
+    for _ in 0..1000 {
+        let digest = sha_1::hash(last.as_flattened()).bytes;
+        last.rotate_left(1);
+        last[2] = digest;
+    }
+    Digest { bytes: last[2] }
+}
+
+impl Run {
+    fn new() -> Run {
+        Run {
+            hashing: sha_1::start(),
+            digest: Digest {
+                bytes: [0; Geometry::DIGEST],
+            },
+            count: 0,
+            wrong: 0,
         }
-        done += n;
     }
-    done
-}
 
-fn next_header<R: Read>(input: &mut R) -> Header {
-    let mut b = [0u8; HEADER];
-    let n = read_full(input, &mut b);
-    Header {
-        bytes: b,
-        whole: n == HEADER,
+    fn compare(&mut self, expected: Digest) {
+        self.count = self.count.wrapping_add(1);
+        if self.digest != expected {
+            self.wrong = self.wrong.wrapping_add(1);
+        }
     }
-}
 
-fn wide(x: u8) -> usize
-    ensures { result < 256 }
-{
-    x as usize
-}
-
-fn digest_in(h: [u8; HEADER]) -> sha_1::Digest {
-    let mut b = [0u8; Geometry::DIGEST];
-    let mut i: usize = 0;
-    while i < Geometry::DIGEST {
-        b[i] = h[12 + i];
-        i += 1;
+    // Writes the counts behind their name, and begins them anew.
+    fn line<W: Write>(&mut self, output: &mut W, name: Digest) {
+        let Run { count, wrong, .. } = *self;
+        output.write_all(&name.bytes).is_ok();
+        writeln!(output, "{count} digests, {wrong} differ").is_ok();
+        self.count = 0;
+        self.wrong = 0;
     }
-    sha_1::Digest { bytes: b }
-}
 
-fn is_same(x: sha_1::Digest, y: sha_1::Digest) -> bool {
-    let p = x.bytes;
-    let q = y.bytes;
-    let mut ok = true;
-    let mut i: usize = 0;
-    while i < Geometry::DIGEST {
-        ok = ok & (p[i] == q[i]);
-        i += 1;
+    // A command that a part of n bytes follows; where the input ends before that, the rest of the part is zeros.
+    fn part<R: Read>(&mut self, input: &mut R, command: u8, n: u16) {
+        let mut space = [0u8; MOST];
+        let part = &mut space[..usize::from(n)];
+        input.read_exact(part).is_ok();
+        match command {
+            b't' => self.hashing = sha_1::taken(self.hashing, part),
+            b'f' => {
+                self.digest = sha_1::finished(self.hashing, part);
+                self.hashing = sha_1::start();
+            }
+            _ => self.digest = sha_1::hash(part),
+        }
     }
-    ok
-}
 
-fn three(x: sha_1::Digest, y: sha_1::Digest, z: sha_1::Digest) -> [u8; 3 * Geometry::DIGEST] {
-    let p = x.bytes;
-    let q = y.bytes;
-    let r = z.bytes;
-    let mut b = [0u8; 3 * Geometry::DIGEST];
-    let mut i: usize = 0;
-    while i < Geometry::DIGEST {
-        b[i] = p[i];
-        b[Geometry::DIGEST + i] = q[i];
-        b[THIRD + i] = r[i];
-        i += 1;
-    }
-    b
-}
-
-fn hash_three(x: sha_1::Digest, y: sha_1::Digest, z: sha_1::Digest) -> sha_1::Digest {
-    let b = three(x, y, z);
-    sha_1::hash(&b)
-}
-
-// One checkpoint of NIST's Monte Carlo test.
-fn thousand(seed: sha_1::Digest) -> sha_1::Digest {
-    let mut x = seed;
-    let mut y = seed;
-    let mut z = seed;
-    let mut i: usize = 0;
-    while i < 1000 {
-        let d = hash_three(x, y, z);
-        x = y;
-        y = z;
-        z = d;
-        i += 1;
-    }
-    z
-}
-
-fn with_digest(r: Run, d: sha_1::Digest) -> Run {
-    let k = r.hashing;
-    Run {
-        hashing: k,
-        digest: d,
-        count: r.count,
-        wrong: r.wrong,
-    }
-}
-
-fn with_hashing(r: Run, k: sha_1::Hashing) -> Run {
-    let d = r.digest;
-    Run {
-        hashing: k,
-        digest: d,
-        count: r.count,
-        wrong: r.wrong,
-    }
-}
-
-fn with_counts(r: Run, count: u64, wrong: u64) -> Run {
-    let k = r.hashing;
-    let d = r.digest;
-    Run {
-        hashing: k,
-        digest: d,
-        count: count,
-        wrong: wrong,
-    }
-}
-
-fn compared(r: Run, d: sha_1::Digest) -> Run {
-    let wrong = if is_same(r.digest, d) { 0 } else { 1 };
-    let count = std::num::wrapping_add_u64(r.count, 1);
-    let all = std::num::wrapping_add_u64(r.wrong, wrong);
-    with_counts(r, count, all)
-}
-
-fn line<W: Write>(output: &mut W, r: Run, d: sha_1::Digest) -> Run {
-    let name = d.bytes;
-    let count = r.count;
-    let wrong = r.wrong;
-    output.write_all(&name).is_ok();
-    writeln!(output, "{count} digests, {wrong} differ").is_ok();
-    with_counts(r, 0, 0)
-}
-
-fn fill<R: Read>(input: &mut R, buf: &mut [u8], n: usize)
-    requires { n ≤ length buf.old }
-{
-    read_full(input, &mut buf[..n]);
-}
-
-fn with_part<R: Read>(input: &mut R, r: Run, kind: u8, n: usize) -> Run
-    requires { n < 65536 }
-{
-    let mut space = [0u8; 65536];
-    fill(input, &mut space, n);
-    if kind == b't' {
-        return with_hashing(r, sha_1::taken(r.hashing, &space[..n]));
-    }
-    if kind == b'f' {
-        let d = sha_1::finished(r.hashing, &space[..n]);
-        return with_hashing(with_digest(r, d), sha_1::start());
-    }
-    with_digest(r, sha_1::hash(&space[..n]))
-}
-
-fn stepped<R: Read, W: Write>(input: &mut R, output: &mut W, r: Run, h: [u8; HEADER]) -> Run {
-    let kind = h[0];
-    let d = digest_in(h);
-    if kind == b's' {
-        return with_digest(r, d);
-    }
-    if kind == b'p' {
-        return with_digest(r, sha_1::hash_pair(r.digest, d));
-    }
-    if kind == b'm' {
-        return with_digest(r, thousand(r.digest));
-    }
-    if kind == b'c' {
-        return compared(r, d);
-    }
-    if kind == b'l' {
-        return line(output, r, d);
-    }
-    with_part(input, r, kind, wide(h[2]) * 256 + wide(h[3]))
-}
-
-fn begun() -> Run {
-    let k = sha_1::start();
-    let b = [0u8; Geometry::DIGEST];
-    let d = sha_1::Digest { bytes: b };
-    Run {
-        hashing: k,
-        digest: d,
-        count: 0,
-        wrong: 0,
+    fn step<R: Read, W: Write>(&mut self, input: &mut R, output: &mut W, header: [u8; HEADER]) {
+        let digest = digest_in(&header);
+        match header[0] {
+            b's' => self.digest = digest,
+            b'p' => self.digest = sha_1::hash_pair(self.digest, digest),
+            b'm' => self.digest = thousand(self.digest),
+            b'c' => self.compare(digest),
+            b'l' => self.line(output, digest),
+            command => self.part(input, command, u16::from_be_bytes([header[2], header[3]])),
+        }
     }
 }
 
@@ -226,12 +109,11 @@ fn begun() -> Run {
 fn main(rt: HostRuntime) {
     let mut input = rt.stdin();
     let mut output = rt.stdout();
-    let mut r = begun();
+    let mut run = Run::new();
     for _ in 0..u64::MAX {
-        let h = next_header(&mut input);
-        if !h.whole {
+        let Some(header) = next_header(&mut input) else {
             break;
-        }
-        r = stepped(&mut input, &mut output, r, h.bytes);
+        };
+        run.step(&mut input, &mut output, header);
     }
 }
