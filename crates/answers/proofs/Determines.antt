@@ -1,19 +1,16 @@
 -- What is printed for an answer determines it.
-use Prim.Native.Nat.{ℕ, ◌+◌, ◌*◌, ◌≤◌, ◌<◌, ◌^◌}
+use Prim.Native.Nat.{ℕ, min, ◌+◌, ◌*◌, ◌≤◌, ◌<◌, ◌^◌}
 use native.Mathlib.Omega.{arith}
 use mathlib.Core.Path.{◌≡◌, refl, sym, ap, ◌∙◌}
 use mathlib.Core.List.{List, [], ◌∷◌, ◌++◌, append_cancel_left, append_cancel_right}
 use lib.ListN.{length, get_or, take}
 use lib.Seq.{length-take-le}
-use lib.Dec.{ltb}
-use borrow.Author.Tests.{ltb-false}
-use Rattle.lists.proofs.Logic.{decided, pick_true, pick_false}
 use Rattle.events.specs.declared.Answer.TheVariants.{Done, Slot, Entered, Left, Terminated, Filled, Refused}
 use Rattle.events.specs.Refusals.{number_of}
 use Rattle.events.proofs.Numbers.{number_own, number_small}
 use Rattle.numerals.specs.Decimal.{decimal}
 use Rattle.numerals.specs.Hex.{pairs}
-use Rattle.answers.specs.Text.{clipped, most_shown, shown_of, ended, Fits, Determined}
+use Rattle.answers.specs.Text.{most_shown, shown_of, ended, Fits, Determined}
 use Rattle.answers.proofs.Back.{decimal_same, pairs_same, taken_bytes}
 
 -- the first two characters tell the kind of answer
@@ -24,16 +21,10 @@ tag l = get_or l 0 0 * 256 + get_or l 1 0
 number_same : (w : List ℕ) (x y : ℕ) → x < 2 ^ 64 → y < 2 ^ 64 → w ++ ended (decimal x) ≡ w ++ ended (decimal y) → x ≡ y
 number_same w x y a b e = decimal_same x y a b (append_cancel_right (decimal x) (decimal y) (10 ∷ []) (append_cancel_left w (ended (decimal x)) (ended (decimal y)) e))
 
-within : (n most : ℕ) → n ≤ most → clipped n most ≡ n
-within n most h =
-    decided (ltb n most)
-    (λ t. pick_true _ _ _ t)
-    (λ t. let e : clipped n most ≡ most = pick_false _ _ _ t in omega (arith, e, ltb-false n most t))
-
 -- all of the bytes are shown
 shown_all : (n : ℕ) (x : List ℕ) → n ≤ most_shown → n ≤ length x → shown_of n x ≡ take n x
 shown_all n x a b =
-    let e : clipped (clipped n most_shown) (length x) ≡ n = ap (λ (k : ℕ). clipped k (length x)) (within n most_shown a) ∙ within n (length x) b in
+    let e : min (min n most_shown) (length x) ≡ n = omega arith in
     ap (λ (k : ℕ). take k x) e
 
 -- bytes after a word

@@ -1,12 +1,12 @@
 -- How an answer's text is put together.
-use Prim.Native.Nat.{ℕ, zero, suc, ◌+◌, ◌*◌, ◌/◌, ◌%◌, ◌≤◌, ◌<◌}
+use Prim.Native.Nat.{ℕ, min, zero, suc, ◌+◌, ◌*◌, ◌/◌, ◌%◌, ◌≤◌, ◌<◌}
 use native.Mathlib.Omega.{arith}
 use mathlib.Core.Path.{◌≡◌, refl, sym, subst, ap, ◌∙◌}
 use mathlib.Core.List.{List, [], ◌∷◌, ◌++◌, append_assoc}
 use lib.ListN.{length, set, take, length-append, length-take}
 use lib.Seq.{sets, length-sets}
 use lib.Dec.{ltb}
-use borrow.Author.Tests.{ltb-true, ltb-false, lt-ltb, le-ltb}
+use borrow.Author.Tests.{lt-ltb, le-ltb}
 use Rattle.lists.proofs.Logic.{decided, pick_true, pick_false}
 use Rattle.lists.proofs.Parts.{sets_turn, sets_next}
 use Rattle.events.specs.declared.Answer.{Answer}
@@ -14,7 +14,7 @@ use Rattle.events.specs.declared.Answer.TheVariants.{Done, Slot, Entered, Left, 
 use Rattle.events.specs.Refusals.{number_of}
 use Rattle.numerals.specs.Decimal.{digits, decimal}
 use Rattle.numerals.specs.Hex.{pairs}
-use Rattle.answers.specs.Text.{clipped, most_shown, longest_text, shown_of, ended, text_of, printed}
+use Rattle.answers.specs.Text.{most_shown, longest_text, shown_of, ended, text_of, printed}
 
 -- the newline after what is in place
 pub word_turn : {d : List ℕ} (t w : List ℕ) (e : ℕ) → d ≡ sets t 0 w → e ≡ length w → set d e 10 ≡ sets t 0 (ended w)
@@ -59,19 +59,6 @@ unfolding pairs
 pairs_long [] = refl
 pairs_long (b ∷ bs) = omega (arith, pairs_long bs)
 
--- at most a page is shown, and no more than there is
-pub clip_le : (n most : ℕ) → clipped n most ≤ most
-clip_le n most =
-    decided (ltb n most)
-    (λ t. let e : clipped n most ≡ n = pick_true _ _ _ t in omega (arith, e, ltb-true n most t))
-    (λ t. let e : clipped n most ≡ most = pick_false _ _ _ t in omega (arith, e))
-
-pub clip_ge : (n most : ℕ) → clipped n most ≤ n
-clip_ge n most =
-    decided (ltb n most)
-    (λ t. let e : clipped n most ≡ n = pick_true _ _ _ t in omega (arith, e))
-    (λ t. let e : clipped n most ≡ most = pick_false _ _ _ t in omega (arith, e, ltb-false n most t))
-
 -- the text as it is printed, from what was put in place
 pub told : {d : List ℕ} (t : List ℕ) (a : Answer) (buffer p : List ℕ) (r : ℕ) → longest_text ≤ length t → text_of a buffer ≡ p → d ≡ sets t 0 p → r ≡ length p
     → (d ≡ sets t 0 (printed (length t) a buffer)) × (r ≡ length (printed (length t) a buffer))
@@ -87,18 +74,15 @@ told_none t a buffer h =
     let q : [] ≡ printed (length t) a buffer = sym (pick_true _ _ _ (lt-ltb (length t) longest_text h)) in
     (ap (λ (l : List ℕ). sets t 0 l) q, ap length q)
 
--- a number after its word, and bytes after theirs
-pub number_told : (w : List ℕ) (a : Answer) (buffer : List ℕ) (s x : ℕ) → text_of a buffer ≡ w ++ ended (decimal s) → x ≡ s → text_of a buffer ≡ w ++ ended (decimal x)
-number_told w a buffer s x e h = e ∙ ap (λ (y : ℕ). w ++ ended (decimal y)) (sym h)
-
-pub bytes_told : (a : Answer) (buffer : List ℕ) (n c m : ℕ) → a ≡ Filled n → c ≡ clipped n most_shown → m ≡ clipped c (length buffer)
+-- bytes after their word, of an answer of n of them
+pub bytes_told : (a : Answer) (buffer : List ℕ) (n c m : ℕ) → a ≡ Filled n → c ≡ min n most_shown → m ≡ min c (length buffer)
     → text_of a buffer ≡ (104 ∷ 101 ∷ 120 ∷ 32 ∷ []) ++ ended (pairs (take m buffer))
 bytes_told a buffer n c m e f g =
     ap (λ (x : Answer). text_of x buffer) e
-    ∙ ap (λ (k : ℕ). (104 ∷ 101 ∷ 120 ∷ 32 ∷ []) ++ ended (pairs (take k buffer))) (sym (g ∙ ap (λ (k : ℕ). clipped k (length buffer)) f))
+    ∙ ap (λ (k : ℕ). (104 ∷ 101 ∷ 120 ∷ 32 ∷ []) ++ ended (pairs (take k buffer))) (sym (g ∙ ap (λ (k : ℕ). min k (length buffer)) f))
 
-pub shown_few : (n c m : ℕ) (buffer : List ℕ) → c ≡ clipped n most_shown → m ≡ clipped c (length buffer) → length (take m buffer) ≤ most_shown
-shown_few n c m buffer f g = omega (arith, length-take m buffer, g, clip_ge c (length buffer), f, clip_le n most_shown)
+shown_few : (n : ℕ) (buffer : List ℕ) → length (shown_of n buffer) ≤ most_shown
+shown_few n buffer = omega (arith, length-take (min (min n most_shown) (length buffer)) buffer)
 
 -- a text has a character at least, its newline, and at most 8,197
 number_room : (x : ℕ) → (1 ≤ length (ended (decimal x))) × (length (ended (decimal x)) ≤ 21)
@@ -107,7 +91,7 @@ number_room x = (omega (arith, ended_long (decimal x)), omega (arith, ended_long
 bytes_room : (n : ℕ) (buffer : List ℕ) → (1 ≤ length (ended (pairs (shown_of n buffer)))) × (length (ended (pairs (shown_of n buffer))) ≤ most_shown * 2 + 1)
 bytes_room n buffer =
     let e = ended_long (pairs (shown_of n buffer)) in
-    (omega arith, omega (arith, pairs_long (shown_of n buffer), shown_few n (clipped n most_shown) (clipped (clipped n most_shown) (length buffer)) buffer refl refl))
+    (omega arith, omega (arith, pairs_long (shown_of n buffer), shown_few n buffer))
 
 pub text_room : (a : Answer) (buffer : List ℕ) → (1 ≤ length (text_of a buffer)) × (length (text_of a buffer) ≤ longest_text)
 text_room Done buffer = (omega arith, omega arith)

@@ -1,5 +1,5 @@
 -- Answers as text. "Answers: `ok`, `slot S`, `in S`, `out N`, `dead S`, `hex` and the bytes, `no R`." Each ends in one newline.
-use Rattle.std.specs.Prelude.{ℕ, ◌≤◌, ◌<◌, ◌^◌, ◌≡◌, List, [], ◌∷◌, ◌++◌, length, take, get_or, ltb}
+use Rattle.std.specs.Prelude.{ℕ, ◌≤◌, ◌<◌, ◌^◌, ◌≡◌, List, [], ◌∷◌, ◌++◌, length, take, get_or, min, ltb}
 use Rattle.geometry.specs.Geometry.{page_size}
 use Rattle.lists.specs.Below.{pick}
 use Rattle.events.specs.declared.Answer.{Answer}
@@ -7,10 +7,6 @@ use Rattle.events.specs.declared.Answer.TheVariants.{Done, Slot, Entered, Left, 
 use Rattle.events.specs.Refusals.{number_of}
 use Rattle.numerals.specs.Decimal.{decimal}
 use Rattle.numerals.specs.Hex.{pairs}
-
--- the lesser of two
-abbrev pub clipped : ℕ → ℕ → ℕ
-clipped n most = pick (ltb n most) n most
 
 -- the most bytes of an answer, a page
 abbrev pub most_shown : ℕ
@@ -22,7 +18,7 @@ longest_text = 8197
 
 -- the bytes of an answer of n bytes
 abbrev pub shown_of : ℕ → List ℕ → List ℕ
-shown_of n buffer = take (clipped (clipped n most_shown) (length buffer)) buffer
+shown_of n buffer = take (min (min n most_shown) (length buffer)) buffer
 
 -- with a newline
 abbrev pub ended : List ℕ → List ℕ

@@ -5,36 +5,13 @@ ghost use Rattle.std.specs.Prelude.{◌≡◌, List, [], ◌∷◌, ◌++◌, �
 ghost use Rattle.std.proofs.lemmas.List.Edits.{sets};
 ghost use Rattle.numerals.specs.Decimal.{decimal};
 ghost use Rattle.numerals.specs.Hex.{pairs};
-ghost use Rattle.events.specs.Refusals.{number_of};
-ghost use Rattle.answers.specs.Text.{clipped, most_shown, shown_of, ended, printed, Determined};
+ghost use Rattle.answers.specs.Text.{most_shown, shown_of, ended, printed, Determined};
 
-use events::{Answer, Refusal};
+use events::Answer;
 use geometry::Geometry;
 
 // The most characters of an answer's text, its newline too.
 pub const LONGEST_TEXT: usize = 8197;
-
-fn clip(n: usize, most: usize) -> usize
-    ensures { result ≡ clipped n most }
-{
-    if n < most {
-        return n;
-    }
-    most
-}
-
-// The number given for no.
-fn number(r: Refusal) -> u64
-    ensures { result ≡ number_of r }
-{
-    u64::from(u8::from(r))
-}
-
-fn count(x: usize) -> u64
-    ensures { result ≡ x }
-{
-    x as u64
-}
 
 // A word and the end of the line.
 fn say_word(text: &mut [u8], word: &[u8]) -> usize
@@ -79,15 +56,15 @@ pub fn say(answer: Answer, buffer: &[u8], text: &mut [u8]) -> usize
     }
     match answer {
         Answer::Done => say_word(text, b"ok"),
-        Answer::Slot(s) => say_number(text, b"slot ", count(s)),
-        Answer::Entered(s) => say_number(text, b"in ", count(s)),
-        Answer::Left(n) => say_number(text, b"out ", count(n)),
-        Answer::Terminated(s) => say_number(text, b"dead ", count(s)),
+        Answer::Slot(s) => say_number(text, b"slot ", s as u64),
+        Answer::Entered(s) => say_number(text, b"in ", s as u64),
+        Answer::Left(n) => say_number(text, b"out ", n as u64),
+        Answer::Terminated(s) => say_number(text, b"dead ", s as u64),
         Answer::Filled(n) => {
-            let m = clip(clip(n, Geometry::PAGE), buffer.len());
+            let m = n.min(Geometry::PAGE).min(buffer.len());
             say_bytes(text, b"hex ", &buffer[..m])
         }
-        Answer::Refused(r) => say_number(text, b"no ", number(r)),
+        Answer::Refused(r) => say_number(text, b"no ", u64::from(u8::from(r))),
     }
 }
 

@@ -9,14 +9,17 @@ use mathlib.Core.List.{List, [], ◌∷◌, ◌++◌, append_assoc, append-nil}
 use lib.ListN.{length, take, drop, length-append, length-take}
 use lib.Seq.{length-take-le, drop-drop, take_all, get_or-take}
 use lib.Dec.{leb, ltb, eqb}
-use borrow.Author.Tests.{leb-true, leb-false, ltb-true, ltb-false, lt-leb}
-use Rattle.lists.proofs.Logic.{decided, pick_false}
+use borrow.Author.Tests.{leb-true, leb-false, ltb-true, ltb-false}
+use Rattle.std.proofs.Common.{Option}
+use Rattle.std.specs.Option.{option_map}
+use Rattle.lists.proofs.Logic.{decided}
 use Rattle.state.specs.declared.State.{State}
 use Rattle.rules.specs.Act.{Out}
 use Rattle.numerals.specs.Place.{is_at}
 use Rattle.numerals.proofs.Places.{place_before}
-use Rattle.lines.specs.declared.Line.{Line}
-use Rattle.lines.specs.Grammar.{longest_line, is_readable, payload_of, line_of}
+use Rattle.lines.specs.declared.Said.{Said}
+use Rattle.lines.specs.Grammar.{longest_line, payload_of, said_of, line_of}
+use Rattle.lines.proofs.Reading.{no_long}
 use Rattle.gather.specs.Lines.{newline, ended_lines, open_line, last_line, lines_of, line_end, most_kept, clipped}
 use Rattle.gather.proofs.Laws.{ended_newline, ended_other, open_newline, open_other, ended_cut, open_cut, none_ended, none_open, first_line, first_open, no_line, clip_few, clip_many}
 use Rattle.answers.specs.Text.{longest_text, text_of}
@@ -28,14 +31,10 @@ use Rattle.desk.proofs.Served.{full, one_more, none_left}
 
 -- ---- a line that is too long
 
--- a line over 2,000 characters is not readable
-long_unreadable : (l : List ℕ) → longest_line < length l → is_readable l ≡ false
-unfolding is_readable
-long_unreadable l h = rw (lt-leb (length l) longest_line h)
-
+-- a line over 2,000 characters says nothing
 long_unheard : (s : State) (m buffer l : List ℕ) → longest_line < length l → heard s m l buffer ≡ unheard s m buffer
 unfolding heard line_of
-long_unheard s m buffer l h = ap (λ (x : Line). heard_as x s m (payload_of l) buffer) (pick_false _ _ _ (long_unreadable l h))
+long_unheard s m buffer l h = ap (λ (x : Option Said). heard_as x s m (payload_of l) buffer) (ap (option_map said_of) (no_long l h))
 
 -- two lines that are the same, or both too long
 abbrev Alike : List ℕ → List ℕ → Type 0

@@ -11,7 +11,6 @@ ghost use Rattle.desk.specs.Served.{answered_in, unasked, standing_of};
 ghost use Rattle.desk.specs.Session.{Faithful, Thorough};
 
 use events::{Answer, Refusal};
-use lines::Line;
 use state::State;
 use touch::Stepped;
 
@@ -26,16 +25,13 @@ pub fn hear(
     requires { payload_room ≤ length payload.old }
     ensures { out_of result memory.new buffer.new ≡ heard s memory.old line.now buffer.old }
 {
-    let read = lines::read_line(line, payload);
-    match read {
-        Line::Said { event, length } => {
-            monitor::step(event, &payload[..length], s, memory, buffer)
-        }
-        Line::Unreadable => Stepped {
+    let Some(said) = lines::read_line(line, payload) else {
+        return Stepped {
             answer: Answer::Refused(Refusal::Unreadable),
             state: s,
-        },
-    }
+        };
+    };
+    monitor::step(said.event, &payload[..said.length], s, memory, buffer)
 }
 
 // Where the lines of a text have led: the state, how far the text is heard, and how many characters the answers have.

@@ -5,8 +5,8 @@ use mathlib.Core.Path.{◌≡◌, refl, sym, ap, ◌∙◌}
 use mathlib.Core.Bool.{true, false}
 use mathlib.Core.List.{List, [], ◌∷◌, ◌++◌, append_assoc, append-nil}
 use lib.ListN.{length, set, take, drop}
-use lib.Dec.{ltb, eqb}
-use borrow.Author.Tests.{ltb-true, ltb-false, lt-ltb, le-ltb}
+use lib.Dec.{eqb}
+use borrow.Author.Tests.{lt-ltb, le-ltb}
 use Rattle.lists.proofs.Logic.{decided, pick_true, pick_false}
 use Rattle.numerals.specs.Place.{is_at}
 use Rattle.numerals.proofs.Places.{place_at, place_before}
@@ -99,10 +99,10 @@ no_line t e h b = none_ended [] t (λ i q. place_before t newline e h i (omega a
 
 -- a count of at most 2,001 is kept
 pub clip_few : (n : ℕ) → n ≤ most_kept → clipped n ≡ n
-clip_few n h = decided (ltb most_kept n) (λ t. absurd (omega (arith, ltb-true most_kept n t))) (λ t. pick_false _ _ _ t)
+clip_few n h = omega arith
 
 pub clip_many : (n : ℕ) → most_kept < n → clipped n ≡ most_kept
-clip_many n h = decided (ltb most_kept n) (λ t. pick_true _ _ _ t) (λ t. absurd (omega (arith, ltb-false most_kept n t)))
+clip_many n h = omega arith
 
 -- what is read behind what is kept
 module _ (block : List ℕ) (kept n : ℕ) where

@@ -1,5 +1,5 @@
 -- Lines out of characters: only byte 10 ends a line. "the last needs no newline, and a final newline begins no other line".
-use Rattle.std.specs.Prelude.{ℕ, ◌+◌, List, [], ◌∷◌, ◌++◌, set, ltb, eqb}
+use Rattle.std.specs.Prelude.{ℕ, ◌+◌, List, [], ◌∷◌, ◌++◌, set, min, ltb, eqb}
 use Rattle.lists.specs.Below.{pick}
 use Rattle.numerals.specs.Place.{place_of}
 use Rattle.gather.specs.declared.Text.{Text}
@@ -36,7 +36,7 @@ abbrev pub most_kept : ℕ
 most_kept = 2001
 
 abbrev pub clipped : ℕ → ℕ
-clipped n = pick (ltb most_kept n) most_kept n
+clipped n = min n most_kept
 
 -- n characters are read behind those that are kept: where the text ends, and whether there may be more. None is the input's end, and ends a line that has begun.
 unfoldable pub received_of : ℕ → ℕ → Text

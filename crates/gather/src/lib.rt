@@ -19,22 +19,13 @@ pub fn line_end(text: &[u8]) -> usize
     numerals::place_of(text, NEWLINE)
 }
 
-fn clip(n: usize) -> usize
-    ensures { result ≡ clipped n }
-{
-    if MOST_KEPT < n {
-        return MOST_KEPT;
-    }
-    n
-}
-
 // What stands from one place of a block to another, the begin of a line that has not ended, goes to the block's front; how much of it is kept.
 pub fn carry(block: &mut [u8], from: usize, to: usize) -> usize
     requires { (from ≤ to) × (to ≤ length block.old) }
     ensures value { (result ≡ clipped (to - from)) × (block.new ≡ sets block.old 0 (part block.old from result)) }
     ensures upper_bound { result ≤ most_kept }
 {
-    let n = clip(to - from);
+    let n = (to - from).min(MOST_KEPT);
     memory::move_bytes(block, from, 0, n);
     n
 }

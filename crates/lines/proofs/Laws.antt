@@ -1,72 +1,45 @@
 -- How fields are found.
-use Prim.Native.Nat.{ℕ, zero, suc, ◌+◌, ◌/◌, ◌≤◌}
-use native.Mathlib.Numerals.{add-one}
+use Prim.Native.Nat.{ℕ, zero, suc, ◌/◌, ◌≤◌}
 use native.Mathlib.Omega.{arith}
-use mathlib.Core.Path.{◌≡◌, refl, sym, ap, ◌∙◌}
-use mathlib.Core.Bool.{Bool, true, false}
-use mathlib.Core.List.{List}
-use lib.ListN.{length, take, drop, drop_of_length-le, length-drop, length-take}
-use lib.Dec.{eqb}
-use borrow.Author.Tests.{ne_eqb, eq-eqb}
-use Rattle.lists.specs.Below.{pick, all_below}
-use Rattle.lists.proofs.All.{all_end}
-use Rattle.numerals.proofs.Places.{place_le}
+use mathlib.Core.Path.{◌≡◌, ap, ◌∙◌}
+use denote.Ref.{Bor}
+use Rattle.std.proofs.Common.{Option, Some, None}
+use mathlib.Core.Bool.{Bool}
+use mathlib.Core.List.{List, [], ◌∷◌}
+use lib.ListN.{length}
+use Rattle.std.specs.List.{slice_split, onto_first, slice_get}
+use Rattle.std.specs.Option.{unwrap_or, option_map}
+use Rattle.lists.proofs.Logic.{decided}
+use Rattle.numerals.specs.Place.{is_char}
 use Rattle.lines.specs.Grammar.{longest_line, payload_room}
-use Rattle.lines.specs.Fields.{space, field_end, rest_of, rest_after, field, same_at, same_text}
+use Rattle.lines.specs.Fields.{space, fields, field}
 
-pub end_le : (l : List ℕ) (e : ℕ) → e ≡ field_end l → e ≤ length l
-end_le l e h = place_le l space e h
+-- part k, or none
+abbrev part_at : List (List ℕ) → ℕ → List ℕ
+part_at ps k = unwrap_or (slice_get ps k) []
 
--- what follows the first space
-pub rest_found : (l : List ℕ) (e : ℕ) → e ≡ field_end l → drop (e + 1) l ≡ rest_of l
-unfolding rest_of
-rest_found l e h = rw h
+onto_few : (x : ℕ) (ps : List (List ℕ)) (n k : ℕ) → ((j : ℕ) → length (part_at ps j) ≤ n) → length (part_at (onto_first x ps) k) ≤ suc n
+onto_few x [] n zero h = omega arith
+onto_few x [] n (suc k) h = omega arith
+onto_few x (p ∷ ps) n zero h = omega (arith, h 0)
+onto_few x (p ∷ ps) n (suc k) h = omega (arith, h (suc k))
 
--- nothing follows
-pub rest_none : (l : List ℕ) (e : ℕ) → e ≡ field_end l → length l ≤ e → drop e l ≡ rest_of l
-unfolding rest_of
-rest_none l e h k = drop_of_length-le l k ∙ sym (drop_of_length-le l {i = field_end l + 1} (omega arith))
-
-pub rest_turn : (l t : List ℕ) (i : ℕ) → t ≡ rest_after l i → rest_of t ≡ rest_after l (i + 1)
-unfolding rest_after
-rest_turn l t i h = rw (add-one, h)
-
-pub rest_start : (l : List ℕ) → l ≡ rest_after l 0
-unfolding rest_after
-rest_start l = refl
-
--- a field is what stands before the next space
-pub field_is : (l t : List ℕ) (k e : ℕ) → t ≡ rest_after l k → e ≡ field_end t → take e t ≡ field l k
-unfolding field
-field_is l t k e h f = rw (f, h)
-
--- texts of other lengths
-pub same_not : (l m : List ℕ) → (length l ≡ length m → ⊥) → false ≡ same_text l m
-unfolding same_text
-same_not l m h = rw (ne_eqb (length l) (length m) h)
-
-pub same_end : (l m : List ℕ) (i : ℕ) (right : Bool) → length l ≡ length m → i ≤ length l → length l ≤ i → right ≡ all_below i (same_at l m) → right ≡ same_text l m
-unfolding same_text
-same_end l m i right e p q h = rw (eq-eqb (length l) (length m) e) (all_end (same_at l m) (length l) i right p q h)
-
--- a character is one space at most
-one : (t : Bool) (r : ℕ) → r ≡ pick t 1 0 → r ≤ 1
-one true r h = omega arith
-one false r h = omega arith
-
-pub one_space : (c r : ℕ) → r ≡ pick (eqb c 32) 1 0 → r ≤ 1
-one_space c r h = one (eqb c 32) r h
-
--- a field is no longer than its line
-rest_few : (l : List ℕ) (k : ℕ) → length (rest_after l k) ≤ length l
-unfolding rest_after rest_of
-rest_few l zero = omega arith
-rest_few l (suc k) = omega (arith, rest_few l k, length-drop (field_end (rest_after l k) + 1) (rest_after l k))
+-- a part is no longer than the whole
+part_few : (p : ℕ → Bool) (l : List ℕ) (k : ℕ) → length (part_at (slice_split p l) k) ≤ length l
+part_few p [] zero = omega arith
+part_few p [] (suc k) = omega arith
+part_few p (x ∷ l) zero = decided (p x) (λ t. rw t (omega arith)) (λ t. rw t (onto_few x (slice_split p l) (length l) 0 (part_few p l)))
+part_few p (x ∷ l) (suc k) = decided (p x) (λ t. rw t (omega (arith, part_few p l k))) (λ t. rw t (onto_few x (slice_split p l) (length l) (suc k) (part_few p l)))
 
 pub field_few : (l : List ℕ) (k : ℕ) → length (field l k) ≤ length l
-unfolding field
-field_few l k = omega (arith, rest_few l k, length-take (field_end (rest_after l k)) (rest_after l k))
+unfolding field fields
+field_few l k = part_few (is_char space) l k
 
 -- so that there is room for its pairs
 pub hex_room : (l t : List ℕ) (k : ℕ) {room : ℕ} → t ≡ field l k → length l ≤ longest_line → payload_room ≤ room → length t / 2 ≤ room
 hex_room l t k e h r = omega (arith, ap length e, field_few l k)
+
+-- the part that was found, or none
+pub part_or : (r : Option (Bor (List ℕ))) (d : Bor (List ℕ)) (s : Option (List ℕ)) → option_map (λ x. x.now) r ≡ s → d.now ≡ [] → (unwrap_or r d).now ≡ unwrap_or s []
+part_or None d s e f = f ∙ ap (λ (o : Option (List ℕ)). unwrap_or o []) e
+part_or (Some x) d s e f = ap (λ (o : Option (List ℕ)). unwrap_or o []) e

@@ -1,117 +1,106 @@
 -- What a line says, from what was found of it.
 use Prim.Native.Nat.{ℕ, ◌+◌, ◌/◌, ◌≤◌, ◌<◌}
-use mathlib.Core.Path.{◌≡◌, refl, sym, ap, ◌∙◌}
-use mathlib.Core.Bool.{Bool, true, false, ◌&&◌, ◌||◌, not, and-false}
+use mathlib.Core.Path.{◌≡◌, sym, ap, ◌∙◌}
+use mathlib.Core.Bool.{true, false}
 use mathlib.Core.List.{List, []}
 use lib.ListN.{length}
 use lib.Seq.{sets}
-use lib.Dec.{leb, eqb}
 use borrow.Author.Tests.{lt-leb, le-leb, ne_eqb, eq-eqb}
-use Rattle.lists.proofs.Logic.{pick_true, pick_false, both}
+use Rattle.std.proofs.Common.{Option, Some, None}
+use Rattle.std.specs.Option.{option_map, option_and_then}
+use Rattle.lists.proofs.Logic.{pick_true, pick_false}
 use Rattle.lists.proofs.Tables.{table_long}
 use Rattle.events.specs.declared.Event.{Event}
 use Rattle.numerals.specs.Hex.{is_hex, hex_bytes, pair_at}
 use Rattle.lines.specs.declared.Verb.{Verb}
 use Rattle.lines.specs.declared.Shape.{Shape}
 use Rattle.lines.specs.declared.Arguments.{Arguments}
-use Rattle.lines.specs.declared.Line.TheVariants.{Said, Unreadable}
+use Rattle.lines.specs.declared.Said.{Said}
 use Rattle.lines.specs.Fields.{field_count, field}
-use Rattle.lines.specs.Grammar.{longest_line, named, verb_of, shape_of, event_of, arguments_of, line_verb, line_shape, hex_field, is_readable, payload_of, line_of}
+use Rattle.lines.specs.Grammar.{longest_line, verb_of, shape_of, event_of, arguments_of, Saying, hex_field, said_with, said_by, saying_of, payload_in, payload_of, said_of, line_of}
 
--- what is known of a line when its fields are counted
-pub record Known (l w : List ℕ) (v : Verb) (sh : Shape) (xs : Arguments) : Type 0 where
-  pub word : w ≡ field l 0
-  pub verb : v ≡ verb_of w
-  pub shape : sh ≡ shape_of v
-  pub numbers : xs ≡ arguments_of l sh.numbers
-
-abbrev pub Refused : List ℕ → List ℕ → Type 0
-Refused l m = (Unreadable ≡ line_of l) × (m ≡ sets m 0 (payload_of l))
-
-refused : (l m : List ℕ) → is_readable l ≡ false → Refused l m
+-- a line that says nothing
+pub refused : (l m : List ℕ) (r : Option Said) → r ≡ None → saying_of l ≡ None → (r ≡ line_of l) × (m ≡ sets m 0 (payload_of l))
 unfolding line_of payload_of
-refused l m h =
-    let e : payload_of l ≡ [] = pick_false _ _ _ (ap (λ (t : Bool). t && (line_shape l).hex) h) in
-    (sym (pick_false (is_readable l) _ _ h), ap (λ (p : List ℕ). sets m 0 p) (sym e))
+refused l m r e h = (e ∙ sym (ap (option_map said_of) h), ap (λ (s : Option Saying). sets m 0 (payload_in s)) (sym h))
+
+-- and one that says something
+pub told : (l m : List ℕ) (e f : Event) (p : List ℕ) (n : ℕ) → saying_of l ≡ Some (record { event = f; payload = p }) → e ≡ f → n ≡ length p
+    → (Some (record { event = e; length = n }) ≡ line_of l) × (sets m 0 p ≡ sets m 0 (payload_of l))
+unfolding line_of payload_of
+told l m e f p n h g k =
+    (rw (g, k) (sym (ap (option_map said_of) h)), ap (λ (s : Option Saying). sets m 0 (payload_in s)) (sym h))
 
 -- a line over 2,000 characters
-pub no_long : (l m : List ℕ) → longest_line < length l → Refused l m
-unfolding is_readable
-no_long l m h = refused l m (rw (lt-leb (length l) longest_line h))
+pub no_long : (l : List ℕ) → longest_line < length l → saying_of l ≡ None
+unfolding saying_of
+no_long l h = pick_false _ _ _ (lt-leb (length l) longest_line h)
 
-third_no : (a b d : Bool) → a && (b && (false && d)) ≡ false
-third_no a b d = rw (and-false b) (and-false a)
+short_said : (l : List ℕ) → length l ≤ longest_line → saying_of l ≡ option_and_then (said_by l) (verb_of (field l 0))
+unfolding saying_of
+short_said l h = pick_true _ _ _ (le-leb (length l) longest_line h)
 
-fourth_no : (a b c : Bool) → a && (b && (c && false)) ≡ false
-fourth_no a b c = rw (and-false c, and-false b) (and-false a)
+-- a line with no verb
+pub no_verb : (l w : List ℕ) → length l ≤ longest_line → w ≡ field l 0 → None ≡ verb_of w → saying_of l ≡ None
+no_verb l w h f e = short_said l h ∙ ap (option_and_then (said_by l)) (ap verb_of (sym f) ∙ sym e)
 
-module _ {l w : List ℕ} {v : Verb} {sh : Shape} {xs : Arguments} (k : Known l w v sh xs) where
-  verb_is : v ≡ line_verb l
-  verb_is = k.verb ∙ ap verb_of k.word
+-- what is known of a line when its verb is
+pub record Known (l w : List ℕ) (v : Verb) (sh : Shape) : Type 0 where
+  pub short : length l ≤ longest_line
+  pub word : w ≡ field l 0
+  pub verb : Some v ≡ verb_of w
+  pub shape : sh ≡ shape_of v
 
-  shape_is : sh ≡ line_shape l
-  shape_is = k.shape ∙ ap shape_of verb_is
-
-  numbers_are : xs ≡ arguments_of l (line_shape l).numbers
-  numbers_are = k.numbers ∙ ap (λ (s : Shape). arguments_of l s.numbers) shape_is
+module _ {l w : List ℕ} {v : Verb} {sh : Shape} (k : Known l w v sh) where
+  verb_said : saying_of l ≡ said_by l v
+  verb_said = short_said l k.short ∙ ap (option_and_then (said_by l)) (ap verb_of (sym k.word) ∙ sym k.verb)
 
   -- another number of fields
-  pub no_count : (m : List ℕ) (n : ℕ) → n ≡ field_count l → (n ≡ sh.fields → ⊥) → Refused l m
-  unfolding is_readable
-  no_count m n e h =
-      let f : eqb (field_count l) (line_shape l).fields ≡ false = ne_eqb _ _ (λ g. h (e ∙ (g ∙ sym (ap (λ (s : Shape). s.fields) shape_is)))) in
-      refused l m (rw f (and-false (leb (length l) longest_line)))
+  pub no_count : (n : ℕ) → n ≡ field_count l → (n ≡ sh.fields → ⊥) → saying_of l ≡ None
+  no_count n e h = verb_said ∙ pick_false _ _ _ (ne_eqb _ _ (λ g. h (e ∙ (g ∙ sym (ap (λ (s : Shape). s.fields) k.shape)))))
 
-  -- a field that is to be a number and is none
-  pub no_number_lem : (m : List ℕ) → xs.right ≡ false → Refused l m
-  unfolding is_readable
-  no_number_lem m h =
-      let f : (arguments_of l (line_shape l).numbers).right ≡ false = sym (ap (λ (x : Arguments). x.right) numbers_are) ∙ h in
-      refused l m (rw f (third_no (leb (length l) longest_line) (eqb (field_count l) (line_shape l).fields) (not (line_shape l).hex || is_hex (hex_field l))))
+  module _ (n : ℕ) (e : n ≡ field_count l) (f : n ≡ sh.fields) where
+    counted : saying_of l ≡ option_and_then (said_with l v) (arguments_of l (shape_of v).numbers)
+    counted = verb_said ∙ pick_true _ _ _ (eq-eqb _ _ (sym e ∙ (f ∙ ap (λ (s : Shape). s.fields) k.shape)))
 
-  hex_is : (t : List ℕ) → t ≡ field l (sh.numbers + 1) → t ≡ hex_field l
-  hex_is t e = e ∙ ap (λ (s : Shape). field l (s.numbers + 1)) shape_is
+    -- a field that is to be a number and is none
+    pub no_numbers : None ≡ arguments_of l sh.numbers → saying_of l ≡ None
+    no_numbers h = counted ∙ ap (option_and_then (said_with l v)) (sym (h ∙ ap (λ (s : Shape). arguments_of l s.numbers) k.shape))
 
-  -- a field that is to be HEX and is none
-  pub no_hex : (m t : List ℕ) → sh.hex ≡ true → t ≡ field l (sh.numbers + 1) → is_hex t ≡ false → Refused l m
-  unfolding is_readable
-  no_hex m t a e h =
-      let f : (line_shape l).hex ≡ true = sym (ap (λ (s : Shape). s.hex) shape_is) ∙ a in
-      let g : is_hex (hex_field l) ≡ false = ap is_hex (sym (hex_is t e)) ∙ h in
-      refused l m (rw (f, g) (fourth_no (leb (length l) longest_line) (eqb (field_count l) (line_shape l).fields) (arguments_of l (line_shape l).numbers).right))
+    module _ (x : Arguments) (h : Some x ≡ arguments_of l sh.numbers) where
+      numbered : saying_of l ≡ said_with l v x
+      numbered = counted ∙ ap (option_and_then (said_with l v)) (sym (h ∙ ap (λ (s : Shape). arguments_of l s.numbers) k.shape))
 
-  module _ (m : List ℕ) (n : ℕ) (e : Event) (short : length l ≤ longest_line) (c : n ≡ field_count l) (f : n ≡ sh.fields) (r : xs.right ≡ true) (o : e ≡ event_of v xs) where
-    counted : eqb (field_count l) (line_shape l).fields ≡ true
-    counted = eq-eqb _ _ (sym c ∙ (f ∙ ap (λ (s : Shape). s.fields) shape_is))
+      hex_is : (t : List ℕ) → t ≡ field l (sh.numbers + 1) → t ≡ hex_field l v
+      hex_is t e = e ∙ ap (λ (s : Shape). field l (s.numbers + 1)) k.shape
 
-    righted : (arguments_of l (line_shape l).numbers).right ≡ true
-    righted = sym (ap (λ (x : Arguments). x.right) numbers_are) ∙ r
+      -- a line with no HEX
+      pub yes_plain : sh.hex ≡ false → saying_of l ≡ Some (record { event = event_of v x; payload = [] })
+      yes_plain a =
+          let g : (shape_of v).hex ≡ false = sym (ap (λ (s : Shape). s.hex) k.shape) ∙ a in
+          numbered ∙ rw g
 
-    event_is : e ≡ event_of (line_verb l) (arguments_of l (line_shape l).numbers)
-    event_is = o ∙ (ap (λ (u : Verb). event_of u xs) verb_is ∙ ap (λ (x : Arguments). event_of (line_verb l) x) numbers_are)
+      module _ (t : List ℕ) (a : sh.hex ≡ true) (d : t ≡ field l (sh.numbers + 1)) where
+        -- a field that is to be HEX and is none
+        pub no_hex : is_hex t ≡ false → saying_of l ≡ None
+        no_hex b =
+            let g : (shape_of v).hex ≡ true = sym (ap (λ (s : Shape). s.hex) k.shape) ∙ a in
+            let i : is_hex (hex_field l v) ≡ false = ap is_hex (sym (hex_is t d)) ∙ b in
+            numbered ∙ rw (g, i)
 
-    said : (p : List ℕ) (size : ℕ) → is_readable l ≡ true → payload_of l ≡ p → size ≡ length p → (Said e size ≡ line_of l) × (sets m 0 p ≡ sets m 0 (payload_of l))
-    unfolding line_of
-    said p size h q s =
-        (ap (λ (x : Event). Said x size) event_is ∙ (ap (λ (y : ℕ). Said (event_of (line_verb l) (arguments_of l (line_shape l).numbers)) y) (s ∙ ap length (sym q)) ∙ sym (pick_true (is_readable l) _ _ h)), ap (λ (x : List ℕ). sets m 0 x) (sym q))
+        -- a line with one
+        pub yes_hex : is_hex t ≡ true → saying_of l ≡ Some (record { event = event_of v x; payload = hex_bytes t })
+        yes_hex b =
+            let g : (shape_of v).hex ≡ true = sym (ap (λ (s : Shape). s.hex) k.shape) ∙ a in
+            let i : is_hex (hex_field l v) ≡ true = ap is_hex (sym (hex_is t d)) ∙ b in
+            numbered ∙ (rw (g, i) (ap (λ (y : List ℕ). Some (record { event = event_of v x; payload = hex_bytes y })) (sym (hex_is t d))))
 
-    -- a line with no HEX
-    pub yes_plain : sh.hex ≡ false → (Said e 0 ≡ line_of l) × (m ≡ sets m 0 (payload_of l))
-    unfolding is_readable payload_of
-    yes_plain a =
-        let g : (line_shape l).hex ≡ false = sym (ap (λ (s : Shape). s.hex) shape_is) ∙ a in
-        let z : is_readable l && (line_shape l).hex ≡ false = ap (λ (x : Bool). is_readable l && x) g ∙ and-false (is_readable l) in
-        said [] 0 (rw (le-leb (length l) longest_line short, counted, righted, g)) (pick_false _ _ _ z) refl
+-- a byte for each pair
+pub hex_long : (t : List ℕ) → length t / 2 ≡ length (hex_bytes t)
+unfolding hex_bytes
+hex_long t = sym (table_long (pair_at t) (length t / 2))
 
-    -- a line with one
-    pub yes_hex : (t : List ℕ) → sh.hex ≡ true → t ≡ field l (sh.numbers + 1) → is_hex t ≡ true → (Said e (length t / 2) ≡ line_of l) × (sets m 0 (hex_bytes t) ≡ sets m 0 (payload_of l))
-    unfolding is_readable payload_of hex_bytes
-    yes_hex t a d h =
-        let g : (line_shape l).hex ≡ true = sym (ap (λ (s : Shape). s.hex) shape_is) ∙ a in
-        let i : is_hex (hex_field l) ≡ true = ap is_hex (sym (hex_is t d)) ∙ h in
-        let y : is_readable l ≡ true = rw (le-leb (length l) longest_line short, counted, righted, g, i) in
-        said (hex_bytes t) (length t / 2) y (pick_true _ _ _ (both (is_readable l) (line_shape l).hex y g) ∙ ap hex_bytes (sym (hex_is t d))) (sym (table_long (pair_at t) (length t / 2)))
-
--- a word is compared with one name after another
-pub named_then : (w n : List ℕ) (v : Verb) {o p r : Verb} → r ≡ named w n v o → o ≡ p → r ≡ named w n v p
-named_then w n v h e = h ∙ ap (named w n v) e
+-- a verb that was found
+pub found : (r s : Option Verb) → option_map (λ v. v) r ≡ s → r ≡ s
+found None s e = e
+found (Some v) s e = e

@@ -6,12 +6,10 @@ mod fields;
 ghost use Rattle.std.specs.Prelude.{◌≡◌, Bool, true, List, ℕ, ◌≤◌, length};
 ghost use Rattle.std.proofs.lemmas.List.Edits.{sets};
 ghost use Rattle.lists.specs.Below.{pick};
-ghost use Rattle.lines.specs.Grammar as Grammar;
-ghost use Rattle.lines.specs.Grammar.{verb_of, shape_of, event_of, argument_at, arguments_of, is_readable, line_of, payload_room, payload_of};
+ghost use Rattle.lines.specs.Grammar.{name_of, verb_of, shape_of, event_of, argument_at, arguments_of, line_of, payload_room, payload_of};
 
 use events::Event;
 use memory::Source;
-use numerals::Numeral;
 
 #[derive(Clone, Copy)]
 pub enum Verb {
@@ -27,35 +25,46 @@ pub enum Verb {
     Extp,
     Extm,
     Pcr,
-    Other,
 }
 
-// The verb of a word that is this name; of any other, what is said besides.
-fn named(word: &[u8], name: &[u8], verb: Verb, other: Verb) -> Verb
-    ensures { result ≡ Grammar.named word.now name.now verb other }
+const VERBS: [Verb; 12] = [
+    Verb::Reg,
+    Verb::Unr,
+    Verb::Call,
+    Verb::Ret,
+    Verb::Jmp,
+    Verb::Get,
+    Verb::Put,
+    Verb::Dget,
+    Verb::Dput,
+    Verb::Extp,
+    Verb::Extm,
+    Verb::Pcr,
+];
+
+fn name_of(v: Verb) -> &'static [u8]
+    ensures { result.now ≡ name_of v }
 {
-    if fields::same(word, name) {
-        return verb;
+    match v {
+        Verb::Reg => b"reg",
+        Verb::Unr => b"unr",
+        Verb::Call => b"call",
+        Verb::Ret => b"ret",
+        Verb::Jmp => b"jmp",
+        Verb::Get => b"get",
+        Verb::Put => b"put",
+        Verb::Dget => b"dget",
+        Verb::Dput => b"dput",
+        Verb::Extp => b"extp",
+        Verb::Extm => b"extm",
+        Verb::Pcr => b"pcr",
     }
-    other
 }
 
-fn verb_of(word: &[u8]) -> Verb
+fn verb_of(word: &[u8]) -> Option<Verb>
     ensures { result ≡ verb_of word.now }
 {
-    let v = Verb::Other;
-    let v = named(word, b"pcr", Verb::Pcr, v);
-    let v = named(word, b"extm", Verb::Extm, v);
-    let v = named(word, b"extp", Verb::Extp, v);
-    let v = named(word, b"dput", Verb::Dput, v);
-    let v = named(word, b"dget", Verb::Dget, v);
-    let v = named(word, b"put", Verb::Put, v);
-    let v = named(word, b"get", Verb::Get, v);
-    let v = named(word, b"jmp", Verb::Jmp, v);
-    let v = named(word, b"ret", Verb::Ret, v);
-    let v = named(word, b"call", Verb::Call, v);
-    let v = named(word, b"unr", Verb::Unr, v);
-    named(word, b"reg", Verb::Reg, v)
+    VERBS.iter().copied().find(|v| name_of(*v) == word)
 }
 
 // How many fields a command has, how many of them are numbers, and whether a HEX follows these.
@@ -92,34 +101,26 @@ fn shape_of(v: Verb) -> Shape
         Verb::Extp => shaped(3, 1, true),
         Verb::Extm => shaped(4, 3, false),
         Verb::Pcr => shaped(2, 1, false),
-        Verb::Other => shaped(0, 0, false),
     }
 }
 
-// The numbers of a line, 0 beyond them; whether each is one.
+// The numbers of a line, 0 beyond them.
 #[derive(Clone, Copy)]
 pub struct Arguments {
-    pub right: bool,
     pub first: u64,
     pub second: u64,
     pub third: u64,
     pub fourth: u64,
 }
 
-fn size(x: u64) -> usize
-    ensures { result ≡ x }
-{
-    x as usize
-}
-
 fn event_of(v: Verb, x: Arguments) -> Event
     ensures { result ≡ event_of v x }
 {
     let mark = x.first;
-    let a = size(x.first);
-    let b = size(x.second);
-    let c = size(x.third);
-    let d = size(x.fourth);
+    let a = x.first as usize;
+    let b = x.second as usize;
+    let c = x.third as usize;
+    let d = x.fourth as usize;
     match v {
         Verb::Reg => Event::Register { mark: mark },
         Verb::Unr => Event::Unregister {
@@ -157,43 +158,34 @@ fn event_of(v: Verb, x: Arguments) -> Event
             length: c,
         },
         Verb::Pcr => Event::PcrRead { index: a },
-        Verb::Other => Event::Return,
     }
 }
 
-fn argument_at(line: &[u8], n: usize, k: usize) -> Numeral
+fn argument_at(line: &[u8], n: usize, k: usize) -> Option<u64>
     ensures { result ≡ argument_at line.now n k }
 {
     if n < k {
-        return Numeral {
-            right: true,
-            value: 0,
-        };
+        return Some(0);
     }
     numerals::number(fields::field_of(line, k))
 }
 
-fn arguments_of(line: &[u8], n: usize) -> Arguments
+fn arguments_of(line: &[u8], n: usize) -> Option<Arguments>
     ensures { result ≡ arguments_of line.now n }
 {
-    let a = argument_at(line, n, 1);
-    let b = argument_at(line, n, 2);
-    let c = argument_at(line, n, 3);
-    let d = argument_at(line, n, 4);
-    Arguments {
-        right: a.right & (b.right & (c.right & d.right)),
-        first: a.value,
-        second: b.value,
-        third: c.value,
-        fourth: d.value,
-    }
+    Some(Arguments {
+        first: argument_at(line, n, 1)?,
+        second: argument_at(line, n, 2)?,
+        third: argument_at(line, n, 3)?,
+        fourth: argument_at(line, n, 4)?,
+    })
 }
 
 // What a line says: an event and how many payload bytes go with it.
 #[derive(Clone, Copy)]
-pub enum Line {
-    Said { event: Event, length: usize },
-    Unreadable,
+pub struct Said {
+    pub event: Event,
+    pub length: usize,
 }
 
 // "A line over 2,000 characters .. is `no 11`"
@@ -203,36 +195,30 @@ pub const LONGEST_LINE: usize = 2000;
 pub const PAYLOAD_ROOM: usize = 1000;
 
 // One line, without its newline, to what it says; the payload goes to the front of a lent slice, which a thousand bytes are enough for.
-pub fn read_line(line: &[u8], payload: &mut [u8]) -> Line
+pub fn read_line(line: &[u8], payload: &mut [u8]) -> Option<Said>
     requires { payload_room ≤ length payload.old }
     ensures { (result ≡ line_of line.now) × (payload.new ≡ sets payload.old 0 (payload_of line.now)) }
 {
     if LONGEST_LINE < line.len() {
-        return Line::Unreadable;
+        return None;
     }
-    let verb = verb_of(fields::field_of(line, 0));
+    let verb = verb_of(fields::field_of(line, 0))?;
     let shape = shape_of(verb);
-    let arguments = arguments_of(line, shape.numbers);
     if fields::field_count(line) != shape.fields {
-        return Line::Unreadable;
+        return None;
     }
-    if !arguments.right {
-        return Line::Unreadable;
-    }
+    let arguments = arguments_of(line, shape.numbers)?;
     let event = event_of(verb, arguments);
     if !shape.hex {
-        return Line::Said {
-            event: event,
-            length: 0,
-        };
+        return Some(Said { event, length: 0 });
     }
     let text = fields::field_of(line, shape.numbers + 1);
     if !numerals::is_hex(text) {
-        return Line::Unreadable;
+        return None;
     }
     numerals::put_hex(text, payload);
-    Line::Said {
-        event: event,
+    Some(Said {
+        event,
         length: text.len() / 2,
-    }
+    })
 }

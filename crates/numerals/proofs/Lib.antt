@@ -1,4 +1,3 @@
-pub mod Ranges
 pub mod Reading
 pub mod Hexed
 pub mod Writing

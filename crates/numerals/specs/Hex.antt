@@ -1,14 +1,15 @@
 -- "HEX is lower-case pairs or `-` for none"
-use Rattle.std.specs.Prelude.{ℕ, ◌+◌, ◌*◌, ◌-◌, ◌/◌, ◌%◌, Bool, ◌&&◌, ◌||◌, List, [], ◌∷◌, length, get_or, leb, ltb, eqb}
-use Rattle.lists.specs.Below.{pick, all_below, table}
+use Rattle.std.specs.Prelude.{ℕ, ◌+◌, ◌*◌, ◌-◌, ◌/◌, ◌%◌, Bool, ◌&&◌, ◌||◌, List, [], ◌∷◌, Option, Some, None, length, get_or, leb, ltb, eqb, is_some, unwrap_or}
+use Rattle.std.specs.List.{list_all}
+use Rattle.lists.specs.Below.{pick, table}
 use Rattle.numerals.specs.Decimal.{between}
 
--- a hex digit's value, or 16; upper case is none
-abbrev pub hex_value : ℕ → ℕ
-hex_value c = pick (between 48 57 c) (c - 48) (pick (between 97 102 c) (c - 87) 16)
+-- a hex digit's value; upper case has none, nor has any other character
+abbrev pub hex_value : ℕ → Option ℕ
+hex_value c = pick (between 48 57 c) (Some (c - 48)) (pick (between 97 102 c) (Some (c - 87)) None)
 
-abbrev pub hex_at : List ℕ → ℕ → Bool
-hex_at l i = ltb (hex_value (get_or l i 0)) 16
+abbrev pub is_hex_digit : ℕ → Bool
+is_hex_digit c = is_some (hex_value c)
 
 -- `-`
 abbrev pub is_dash : List ℕ → Bool
@@ -16,14 +17,18 @@ is_dash l = eqb (length l) 1 && eqb (get_or l 0 0) 45
 
 -- one pair or more
 abbrev pub is_pairs : List ℕ → Bool
-is_pairs l = leb 2 (length l) && (eqb (length l % 2) 0 && all_below (length l) (hex_at l))
+is_pairs l = leb 2 (length l) && (eqb (length l % 2) 0 && list_all is_hex_digit l)
 
 unfoldable pub is_hex : List ℕ → Bool
 is_hex l = is_dash l || is_pairs l
 
+-- what a hex digit is worth
+abbrev pub hex_worth : ℕ → ℕ
+hex_worth c = unwrap_or (hex_value c) 0
+
 -- the byte of pair i
 abbrev pub pair_at : List ℕ → ℕ → ℕ
-pair_at l i = hex_value (get_or l (i * 2) 0) * 16 + hex_value (get_or l (i * 2 + 1) 0)
+pair_at l i = hex_worth (get_or l (i * 2) 0) * 16 + hex_worth (get_or l (i * 2 + 1) 0)
 
 -- the bytes; `-` has none
 unfoldable pub hex_bytes : List ℕ → List ℕ

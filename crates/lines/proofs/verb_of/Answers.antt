@@ -1,8 +1,13 @@
-use Rattle.lines.specs.Grammar.{verb_of}
-use Rattle.lines.proofs.Reading.{named_then}
+use borrow.Author.Tests.{tests}
+use Rattle.std.proofs.Common.{rules}
+use Rattle.std.proofs.lemmas.Iterator.{YieldsList-from_slice}
+use Rattle.std.proofs.lemmas.Iterator.Consumers.{YieldsList-from_copied}
+use Rattle.std.proofs.lemmas.Iterator.Search.{find_from_yields_List}
+use Rattle.lines.specs.Grammar.{verbs, names, verb_of}
+use Rattle.lines.proofs.Reading.{found}
 use Rattle.lines.proofs.verb_of.Goals as goal
 
 pub returns : goal.returns
 unfolding verb_of
 returns c =
-    named_then _ _ _ c.named.ensures (named_then _ _ _ c.named-v-11.ensures (named_then _ _ _ c.named-v-10.ensures (named_then _ _ _ c.named-v-9.ensures (named_then _ _ _ c.named-v-8.ensures (named_then _ _ _ c.named-v-7.ensures (named_then _ _ _ c.named-v-6.ensures (named_then _ _ _ c.named-v-5.ensures (named_then _ _ _ c.named-v-4.ensures (named_then _ _ _ c.named-v-3.ensures (named_then _ _ _ c.named-v-2.ensures c.named-v.ensures))))))))))
+    found _ _ (find_from_yields_List (names c.args.word.now) _ _ c.find.result c.find.ensures.ran (YieldsList-from_copied (YieldsList-from_slice verbs cc)) (λ x b q k. search (rules, tests)))

@@ -1,26 +1,42 @@
-use mathlib.Core.Path.{ap}
+use mathlib.Core.Path.{◌≡◌, sym, ap, ◌∙◌}
+use mathlib.Core.Bool.{Bool}
+use mathlib.Core.List.{List, [], ◌∷◌}
 use Prim.Native.Nat.{ℕ}
-use lib.Dec.{ltb}
-use Rattle.lists.proofs.All.{all_none, all_step}
-use Rattle.numerals.specs.Hex.{hex_at}
-use Rattle.numerals.proofs.Hexed.{hex_empty, hex_dash, hex_end}
+use lib.Dec.{eqb}
+use lib.Pointwise.{pointwise}
+use lib.ListN.{length}
 use native.Mathlib.Omega.{arith}
+use borrow.Author.Tests.{tests, leb-true}
+use Rattle.std.proofs.Common.{rules}
+use Rattle.std.proofs.lemmas.Iterator.{YieldsList-from_slice}
+use Rattle.std.proofs.lemmas.Iterator.Search.{all_from_yields_List}
+use Rattle.numerals.specs.Hex.{is_hex_digit}
+use Rattle.numerals.proofs.Hexed.{hex_dash, hex_pairs, pairs_all, pairs_odd, pairs_few}
 use Rattle.numerals.proofs.is_hex.Goals as goal
+use Rattle.numerals.proofs.is_hex.Goals.{then-text-ge2, else-text-ge2}
+
+-- what the comparison with `-` says
+dashed : {t : Bool} (l d : List ℕ) → t ≡ pointwise eqb l d → d ≡ 45 ∷ [] → t ≡ pointwise eqb l (45 ∷ [])
+dashed l d e f = e ∙ ap (λ (x : List ℕ). pointwise eqb l x) f
+
+pub returns-then-eq : goal.returns-then-eq
+returns-then-eq c = hex_dash c.args.text.now (dashed _ _ c.if-eq.ensures c.as_slice.ensures)
 
 pub returns-then-text-eq0 : goal.returns-then-text-eq0
-returns-then-text-eq0 c = hex_empty c.args.text.now c.if-text-eq0.true
+returns-then-text-eq0 c =
+    let l = c.args.text.now in
+    hex_pairs l _ (dashed _ _ c.if-eq.ensures c.as_slice.ensures)
+    (elim c.if-text-ge2.branch [
+      | then-text-ge2 w ↦ pairs_all l _ w.if-text-ge2.true (sym w.value-is ∙ c.if-text-eq0.true)
+          (all_from_yields_List is_hex_digit _ _ c.all.result c.all.ensures.ran (YieldsList-from_slice l cc) (λ x b q k. search (rules, tests)))
+      | else-text-ge2 w ↦ absurd (omega (arith, leb-true 2 (length l) (sym w.value-is ∙ c.if-text-eq0.true), w.if-text-ge2.false))
+    ])
 
-pub returns-then-text : goal.returns-then-text
-returns-then-text c = hex_dash c.args.text.now c.if-text.true
-
-pub loop-i-init : goal.loop-i-init
-loop-i-init c = (omega arith, all_none (hex_at c.args.text.now))
-
-pub loop-i-preserved : goal.loop-i-preserved
-loop-i-preserved c =
-    let s = c.args.text.now in
-    (omega arith, all_step (hex_at s) c.loop-i.i c.loop-i.right _ c.loop-i.invariant.1 (ap (λ (x : ℕ). ltb x 16) c.hex_value.ensures))
-
-pub returns : goal.returns
-returns c =
-    hex_end c.args.text.now c.loop-i.i c.loop-i.right c.if-text.false c.loop-i.invariant.0 c.loop-i-test.false c.loop-i.invariant.1
+pub returns-else-text-eq0 : goal.returns-else-text-eq0
+returns-else-text-eq0 c =
+    let l = c.args.text.now in
+    hex_pairs l _ (dashed _ _ c.if-eq.ensures c.as_slice.ensures)
+    (elim c.if-text-ge2.branch [
+      | then-text-ge2 w ↦ c.if-text-eq0.false ∙ pairs_odd l (sym w.value-is ∙ c.if-text-eq0.false)
+      | else-text-ge2 w ↦ c.if-text-eq0.false ∙ pairs_few l w.if-text-ge2.false
+    ])

@@ -1,21 +1,15 @@
-use borrow.Author.Tests.{eq-eqb, ne_eqb}
-use Rattle.lists.proofs.First.{first_none, first_more}
-use Rattle.numerals.specs.Place.{is_at}
-use Rattle.numerals.proofs.Places.{place_hit, place_none}
-use native.Mathlib.Omega.{arith}
+use Rattle.std.proofs.lemmas.Iterator.{YieldsList-from_slice}
+use Rattle.std.proofs.lemmas.Iterator.Search.{position_from_yields_List}
+use Rattle.std.proofs.Common.{rules}
+use borrow.Author.Tests.{tests}
+use mathlib.Core.Path.{◌∙◌}
+use Rattle.numerals.specs.Place.{is_char, place_of}
+use Rattle.numerals.proofs.Places.{first_or}
 use Rattle.numerals.proofs.place_of.Goals as goal
 
-pub loop-i-init : goal.loop-i-init
-loop-i-init c = (omega arith, first_none (is_at c.args.text.now c.args.c))
-
-pub returns-then-text-i : goal.returns-then-text-i
-returns-then-text-i c =
-    place_hit c.args.text.now c.args.c c.loop-i.i c.loop-i-test.true c.loop-i.invariant.1 (eq-eqb _ _ c.if-text-i.true)
-
-pub loop-i-preserved : goal.loop-i-preserved
-loop-i-preserved c =
-    (omega arith, first_more (is_at c.args.text.now c.args.c) c.loop-i.i c.loop-i.invariant.1 (ne_eqb _ _ c.if-text-i.false))
-
 pub returns : goal.returns
+unfolding place_of
 returns c =
-    place_none c.args.text.now c.args.c c.loop-i.i c.loop-i.invariant.0 c.loop-i-test.false c.loop-i.invariant.1
+    let x = c.args.text.now in
+    c.unwrap_or.ensures
+    ∙ first_or x c.args.c _ (position_from_yields_List (is_char c.args.c) _ _ c.position.result c.position.ensures.ran (YieldsList-from_slice x cc) (λ x b q k. search (rules, tests)))

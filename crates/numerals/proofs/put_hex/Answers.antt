@@ -1,42 +1,35 @@
 use mathlib.Core.Path.{◌≡◌, refl, ap, ◌∙◌}
-use Prim.Native.Nat.{ℕ, ◌<◌, ◌*◌, ◌+◌, ◌/◌}
+use Prim.Native.Nat.{ℕ, ◌/◌}
+use native.Mathlib.Omega.{arith}
 use lib.ListN.{length, length-set}
 use lib.Seq.{sets}
 use Rattle.lists.specs.Below.{table}
 use Rattle.numerals.specs.Hex.{pair_at, hex_bytes}
-use Rattle.numerals.proofs.Hexed.{hex_digit_at, hex_turn}
-use native.Mathlib.Omega.{arith}
+use Rattle.numerals.proofs.Hexed.{pair_digit, pair_some, pair_byte, hex_turn}
 use Rattle.numerals.proofs.put_hex.Goals as goal
-use Rattle.numerals.proofs.put_hex.Goals.{After-hex_value-low}
-
-ap2 : {a b x y : ℕ} → a ≡ x → b ≡ y → a * 16 + b ≡ x * 16 + y
-ap2 e f = omega arith
-
--- the two digits' values are below 16
-digits : (c : After-hex_value-low) → (c.hex_value-high.result < 16) × (c.hex_value-low.result < 16)
-digits c =
-    let x = c.args.text.now in
-    let i = c.loop-i.i in
-    let e = hex_digit_at x (i * 2) c.requires.0 (omega arith) (omega arith) in
-    let f = hex_digit_at x (i * 2 + 1) c.requires.0 (omega arith) (omega arith) in
-    (omega (arith, e, c.hex_value-high.ensures), omega (arith, f, c.hex_value-low.ensures))
 
 pub loop-i-init : goal.loop-i-init
 unfolding table
-loop-i-init c = (omega arith, refl, refl)
+loop-i-init c = (refl, refl)
 
-pub overflow_mul-out : goal.overflow_mul-out
-overflow_mul-out c = let d = digits c in omega (arith, d.0)
+pub unwrap-requires : goal.unwrap-requires
+unwrap-requires c =
+    pair_some c.args.text.now _ c.loop-i.i 0 _ c.as_chunks.ensures.front (omega arith) (omega arith) c.hex_value.ensures c.requires.0
 
-pub overflow_add-out : goal.overflow_add-out
-overflow_add-out c = let d = digits c in omega (arith, d.0, d.1)
+pub unwrap-requires-in-loop-i : goal.unwrap-requires-in-loop-i
+unwrap-requires-in-loop-i c =
+    pair_some c.args.text.now _ c.loop-i.i 1 _ c.as_chunks.ensures.front (omega arith) (omega arith) c.hex_value-in-loop-i.ensures c.requires.0
 
 pub loop-i-preserved : goal.loop-i-preserved
 loop-i-preserved c =
-    (omega arith, hex_turn c.args.out.now c.args.text.now c.loop-i.i _ c.loop-i.invariant.1 (ap2 c.hex_value-high.ensures c.hex_value-low.ensures), simp length-set c.loop-i.invariant.2)
+    let l = c.args.text.now in
+    let i = c.loop-i.i in
+    let high = pair_digit l _ i 0 _ c.as_chunks.ensures.front (omega arith) (omega arith) c.hex_value.ensures in
+    let low = pair_digit l _ i 1 _ c.as_chunks.ensures.front (omega arith) (omega arith) c.hex_value-in-loop-i.ensures in
+    (hex_turn c.args.out.now l i _ c.loop-i.invariant.0 (pair_byte l i _ _ _ _ high low c.unwrap.ensures c.unwrap-in-loop-i.ensures), simp length-set c.loop-i.invariant.1)
 
 pub returns : goal.returns
 unfolding hex_bytes
 returns c =
     let e : c.loop-i.i ≡ length c.args.text.now / 2 = omega arith in
-    c.loop-i.invariant.1 ∙ ap (λ (k : ℕ). sets c.args.out.now 0 (table (pair_at c.args.text.now) k)) e
+    c.loop-i.invariant.0 ∙ ap (λ (k : ℕ). sets c.args.out.now 0 (table (pair_at c.args.text.now) k)) e
