@@ -2,39 +2,13 @@
 // zeroed buffer to which the fields were written again. tests/manifests.sh compares both with a second reader.
 #![tactic(auto)]
 
-ghost use Rattle.std.specs.Prelude.{◌<◌, ◌≤◌, length};
-
 use fields::Fields;
-use std::io::{Read, Write};
+use std::io::{self, Read, Write};
 
 const LONGEST: usize = manifest::ITEM * (Fields::RUNS + Fields::ENTRIES) + manifest::TRAILER;
 
 // A manifest, behind a byte with its length.
 const GIVEN: usize = 256;
-
-fn length(x: u8) -> usize
-    ensures { result < 256 }
-{
-    x as usize
-}
-
-// Reads until the buffer is full, the input ends or reading fails, and counts the bytes.
-fn read_full<R: Read>(input: &mut R, buf: &mut [u8]) -> usize
-    ensures { result ≤ length buf.new }
-{
-    let mut done = 0;
-    while done < buf.len() {
-        let n = match input.read(&mut buf[done..]) {
-            Ok(n) => n,
-            Err(_) => 0,
-        };
-        if n == 0 {
-            break;
-        }
-        done += n;
-    }
-    done
-}
 
 fn again<W: Write>(output: &mut W, reading: manifest::Reading) {
     let fields = reading.fields;
@@ -43,19 +17,17 @@ fn again<W: Write>(output: &mut W, reading: manifest::Reading) {
     output.write_all(&buffer).is_ok();
 }
 
-// Reads one manifest and answers it; false where the input has ended.
-fn one<R: Read, W: Write>(input: &mut R, output: &mut W) -> bool {
+// Reads one manifest and answers it; an error where the input ends before that, or reading fails.
+fn one<R: Read, W: Write>(input: &mut R, output: &mut W) -> io::Result<()> {
     let mut given = [0u8; GIVEN];
-    if read_full(input, &mut given) < GIVEN {
-        return false;
-    }
-    let n = length(given[0]);
+    input.read_exact(&mut given)?;
+    let n = usize::from(given[0]);
     let reading = manifest::read(&given[1..1 + n]);
     output.write_all(&[reading.refusal]).is_ok();
     if reading.refusal == 0 {
         again(output, reading);
     }
-    true
+    Ok(())
 }
 
 // A proved loop has to end, and nothing says that the input does: no run uses up so many turns.
@@ -63,7 +35,7 @@ fn main(rt: HostRuntime) {
     let mut input = rt.stdin();
     let mut output = rt.stdout();
     for _ in 0..u64::MAX {
-        if !one(&mut input, &mut output) {
+        if one(&mut input, &mut output).is_err() {
             break;
         }
     }
