@@ -8,9 +8,6 @@ use Rattle.numerals.specs.Decimal.{decimal}
 use Rattle.numerals.proofs.Writing.{decimal_is}
 use Rattle.numerals.proofs.put_decimal.Goals as goal
 
-pub put_bytes-requires : goal.put_bytes-requires
-put_bytes-requires c = (omega arith, omega arith)
-
 pub returns : goal.returns
 returns c =
     let d : c.as_bytes-digits.result.now ≡ decimal c.args.x = c.as_bytes-digits.ensures.value ∙ (c.format.ensures.text ∙ decimal_is c.args.x (omega arith)) in
