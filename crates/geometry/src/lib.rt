@@ -4,18 +4,11 @@
 ghost use Rattle.std.specs.Prelude.{◌≡◌, ◌≤◌, ◌<◌, [], ◌∷◌};
 ghost use Rattle.geometry.specs.Geometry.{page_size, least_pages, most_pages, slot_count, pcr_count, digest_size, most_held, half_page, page_of, start_of, bytes_of, is_range};
 
-// The bytes of a page: from `start` up to, and without, `end`.
-#[derive(Clone, Copy)]
-pub struct Span {
-    pub start: usize,
-    pub end: usize,
-}
+use std::ops::Range;
 
 // A type for its constants alone.
 #[derive(Clone, Copy)]
-pub struct Geometry {
-    pub pages: usize,
-}
+pub struct Geometry;
 
 impl Geometry {
     pub const PAGE: usize = 4096;
@@ -63,26 +56,23 @@ impl Geometry {
         page * Geometry::PAGE
     }
 
-    pub fn bytes_of(page: usize) -> Span
+    // The bytes of a page.
+    pub fn bytes_of(page: usize) -> Range<usize>
         requires { page < most_pages }
         ensures { result ≡ bytes_of page }
     {
-        Span {
-            start: page * Geometry::PAGE,
-            end: page * Geometry::PAGE + Geometry::PAGE,
-        }
+        let start = page * Geometry::PAGE;
+        start..start + Geometry::PAGE
     }
 
     // Whether n bytes from an address are a range of a memory of that many pages.
+    #[tactic(auto, unfolding(crate::specs::Geometry::is_range))]
     pub fn is_range(pages: usize, address: usize, n: usize) -> bool
         ensures { result ≡ is_range pages address n }
     {
-        if Geometry::PAGE < n {
-            return false;
-        }
-        let end = address % Geometry::PAGE + n;
-        (1 <= n)
-            & ((n <= Geometry::PAGE)
-                & ((end <= Geometry::PAGE) & (address / Geometry::PAGE < pages)))
+        1 <= n
+            && n <= Geometry::PAGE
+            && address % Geometry::PAGE + n <= Geometry::PAGE
+            && Geometry::page_of(address) < pages
     }
 }
