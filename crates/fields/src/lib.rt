@@ -30,10 +30,35 @@ pub struct Fields {
     pub entries: [Entry; Fields::ENTRIES],
 }
 
+// What an unused place holds.
+impl Run {
+    pub const NONE: Run = Run {
+        kind: 0,
+        count: 0,
+        first: 0,
+    };
+}
+
+impl Entry {
+    pub const NONE: Entry = Entry {
+        address: 0,
+        input: 0,
+        output: 0,
+    };
+}
+
 impl Fields {
     pub const RUNS: usize = 4;
 
     pub const ENTRIES: usize = 8;
+
+    // No run and no entry: all zero.
+    pub const NONE: Fields = Fields {
+        r: 0,
+        e: 0,
+        runs: [Run::NONE; Fields::RUNS],
+        entries: [Entry::NONE; Fields::ENTRIES],
+    };
 
     // The constants are the definitions' numbers: neither moves without the other.
     pub fn places() -> [usize; 2]

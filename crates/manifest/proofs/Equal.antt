@@ -1,10 +1,11 @@
 -- Laws of `equal`.
-use mathlib.Core.Path.{◌≡◌, refl, sym, ap, ◌∙◌}
-use mathlib.Core.Bool.{Bool, true, false, false≢true}
+use mathlib.Core.Path.{◌≡◌, refl, ap}
+use mathlib.Core.Bool.{Bool, true, false, ◌&&◌, false≢true}
 use mathlib.Core.List.{List, [], ◌∷◌}
 use Prim.Native.Nat.{ℕ}
 use lib.Dec.{eqb}
 use borrow.Author.Tests.{eqb-true, eq-eqb}
+use Rattle.std.specs.Cmp.Lexicographic.{pointwise}
 use Rattle.lists.proofs.Logic.{and_l, and_r}
 use Rattle.manifest.specs.Reader.{equal}
 
@@ -21,9 +22,9 @@ equal_true (x ∷ xs) (y ∷ ys) h =
     let f : xs ≡ ys = equal_true xs ys (and_r (eqb x y) _ h) in
     cc
 
--- a test that is true just where two lists are the same
-pub equal_is : (r s : Bool) (a b : List ℕ) → equal a b ≡ s → (r ≡ true → a ≡ b) → (a ≡ b → r ≡ true) → r ≡ s
-equal_is true true a b e f g = refl
-equal_is false false a b e f g = refl
-equal_is true false a b e f g = sym (equal_refl a) ∙ ap (equal a) (f refl) ∙ e
-equal_is false true a b e f g = g (equal_true a b e)
+-- it is what `==` answers
+pub pointwise_equal : (a b : List ℕ) → pointwise eqb a b ≡ equal a b
+pointwise_equal [] [] = refl
+pointwise_equal [] (y ∷ ys) = refl
+pointwise_equal (x ∷ xs) [] = refl
+pointwise_equal (x ∷ xs) (y ∷ ys) = ap (λ (t : Bool). eqb x y && t) (pointwise_equal xs ys)

@@ -1,11 +1,13 @@
 -- What the steps of the writer leave in the buffer.
 use mathlib.Core.Path.{◌≡◌, refl, sym, ap, ◌∙◌}
 use mathlib.Core.List.{List, [], ◌∷◌, ◌++◌, append_assoc}
-use Prim.Native.Nat.{ℕ, ◌+◌, ◌*◌, ◌/◌, ◌%◌, ◌<◌}
-use native.Mathlib.Nat.{mod-eq_of_lt, div-eq_of_lt}
+use Prim.Native.Nat.{ℕ, zero, suc, ◌+◌, ◌*◌, ◌/◌, ◌%◌, ◌≤◌, ◌<◌}
 use native.Mathlib.Omega.{arith}
-use lib.ListN.{length, length-append}
-use lib.Seq.{sets}
+use lib.ListN.{length, take, drop, get_or, length-append}
+use lib.Seq.{sets, sets-eq, length-sets, drop-drop, take-suc}
+use borrow.Rule.Slice.PartMut.{put_mid}
+use Rattle.std.specs.List.{flat_map}
+use Rattle.std.proofs.lemmas.List.{flat_map_more, take_more}
 use Rattle.lists.specs.Below.{joined}
 use Rattle.lists.specs.Numbers.{little}
 use Rattle.lists.proofs.Tables.{joined_more, joined_long}
@@ -14,10 +16,13 @@ use Rattle.lists.proofs.Numbers.{little_long}
 use Rattle.fields.specs.declared.Run.{Run}
 use Rattle.fields.specs.declared.Entry.{Entry}
 use Rattle.fields.specs.declared.Fields.{Fields}
+use Rattle.fields.specs.Fields.{no_run, no_entry}
 use Rattle.manifest.specs.Layout.{fixed, run_bytes, entry_bytes, trailer_bytes, run_bytes_at, entry_bytes_at, encode}
-use Rattle.manifest.proofs.Widths.{little_2, little_4}
+use Rattle.manifest.specs.Items.{run_long, entry_long}
+use Rattle.std.specs.Int.{w32, to_le_bytes}
+use Rattle.manifest.proofs.Widths.{little_2, little_4, le_4}
 
--- the bytes of a run, of an entry and of a small distance, one by one
+-- the bytes of a run and of an entry, one by one
 pub run_bytes_lem : (x : Run)
     → run_bytes x ≡ x.kind ∷ 0 ∷ x.count % 256 ∷ x.count / 256 % 256 ∷ x.first % 256 ∷ x.first / 256 % 256 ∷ x.first / 65536 % 256 ∷ x.first / 16777216 % 256 ∷ []
 unfolding run_bytes
@@ -28,31 +33,43 @@ pub entry_bytes_lem : (x : Entry)
 unfolding entry_bytes
 entry_bytes_lem x = rw (little_2 x.input, little_2 x.output, little_4)
 
-pub distance_bytes : (x : ℕ) → x < 256 → little 4 x ≡ x ∷ 0 ∷ 0 ∷ 0 ∷ []
-distance_bytes x h =
-    rw (little_4, mod-eq_of_lt h, div-eq_of_lt h)
-    (ap (λ (n : ℕ). x ∷ 0 ∷ n % 256 ∷ x / 16777216 % 256 ∷ []) (div-eq_of_lt (omega arith)) ∙ ap (λ (n : ℕ). x ∷ 0 ∷ 0 ∷ n % 256 ∷ []) (div-eq_of_lt (omega arith)))
-
 -- how many they are
-pub run_long : (x : Run) → length (run_bytes x) ≡ 8
-run_long x = ap length (run_bytes_lem x)
-
-pub entry_long : (x : Entry) → length (entry_bytes x) ≡ 8
-entry_long x = ap length (entry_bytes_lem x)
-
 pub trailer_long : (r e : ℕ) → length (trailer_bytes r e) ≡ 16
 unfolding trailer_bytes
 trailer_long r e = simp (length-append, little_long)
 
--- a loop that puts list after list of 8 bytes: before it, and a turn
-pub joined_none : (m : List ℕ) (at : ℕ) (g : ℕ → List ℕ) → m ≡ sets m at (joined 0 g)
-unfolding joined
-joined_none m at g = refl
+-- what is written to a part of a lent slice is put into its list
+pub part_put : (m : List ℕ) (at k : ℕ) (ys : List ℕ) → at + k ≤ length m → length ys ≡ k → put_mid at k m ys ≡ sets m at ys
+part_put m at k ys h e = rw (sets-eq ys m at (rw e h), e, drop-drop) (sym (append_assoc (take at m) ys (drop (at + k) m)))
 
-pub joined_put : {d d' : List ℕ} (m : List ℕ) (at k p : ℕ) (g : ℕ → List ℕ) → d ≡ sets m at (joined k g) → ((j : ℕ) → length (g j) ≡ 8) → p ≡ at + 8 * k → d' ≡ sets d p (g k)
-    → d' ≡ sets m at (joined (k + 1) g)
-joined_put m at k p g e h q f =
-    f ∙ sets_next m at p (joined k g) (g k) e (omega (arith, joined_long g k 8 (λ i _. h i))) ∙ ap (sets m at) (sym (joined_more g k))
+-- a loop that puts item after item, of 8 bytes each: a turn
+module _ {A : Type 0} (f : A → List ℕ) (long : (x : A) → length (f x) ≡ 8) (m : List ℕ) (at : ℕ) (xs : List A) where
+  put_long : (k : ℕ) → k ≤ length xs → length (flat_map f (take k xs)) ≡ 8 * k
+  put_long k h = go xs k h
+    where
+      go : (ys : List A) (k : ℕ) → k ≤ length ys → length (flat_map f (take k ys)) ≡ 8 * k
+      go ys zero h = refl
+      go [] (suc k) h = absurd (omega arith)
+      go (y ∷ ys) (suc k) h = rw (length-append, long y, go ys k (omega arith)) (omega arith)
+
+  pub items_put : {d ys : List ℕ} (k n p : ℕ) (x : A) → d ≡ sets m at (flat_map f (take k xs)) → k < length xs → x ≡ get_or xs k x → ys ≡ f x → p ≡ at + 8 * k → n ≡ 8
+      → at + 8 * length xs ≤ length m → put_mid p n d ys ≡ sets m at (flat_map f (take (k + 1) xs))
+  items_put {d} {ys} k n p x e h q g a b l =
+      let u : length d ≡ length m = ap length e ∙ length-sets m at (flat_map f (take k xs)) in
+      let v : length ys ≡ n = ap length g ∙ long x ∙ sym b in
+      part_put d p n ys (omega arith) v
+      ∙ sets_next m at p (flat_map f (take k xs)) ys e (omega (arith, put_long k (omega arith)))
+      ∙ ap (λ (zs : List ℕ). sets m at (flat_map f (take k xs) ++ zs)) (g ∙ ap f q)
+      ∙ ap (sets m at) (flat_map_more f [] (take k xs) (get_or xs k x) ∙ ap (flat_map f) (sym (take_more xs k x h)))
+
+-- the bytes of the first n items, one after the other
+items_joined : {A : Type 0} (f : A → List ℕ) (xs : List A) (d : A) (n : ℕ) → n ≤ length xs → flat_map f (take n xs) ≡ joined n (λ k. f (get_or xs k d))
+unfolding joined
+items_joined f xs d zero h = refl
+items_joined f xs d (suc n) h =
+    ap (flat_map f) (take-suc xs n d h)
+    ∙ sym (flat_map_more f [] (take n xs) (get_or xs n d))
+    ∙ ap (λ (l : List ℕ). l ++ f (get_or xs n d)) (items_joined f xs d n (omega arith))
 
 -- the trailer's four puts are one
 pub trailer_put : {a b c d : List ℕ} (m : List ℕ) (at r e : ℕ) → a ≡ sets m at fixed → b ≡ sets a (at + 5) (r ∷ e ∷ 0 ∷ []) → c ≡ sets b (at + 8) (little 4 (8 * (r + e)))
@@ -64,8 +81,31 @@ trailer_put m at r e p q x y =
     let n : length (little 4 (8 * (r + e))) ≡ 4 = little_long 4 (8 * (r + e)) in
     y ∙ sets_next m at (at + 12) (fixed ++ ((r ∷ e ∷ 0 ∷ []) ++ little 4 (8 * (r + e)))) (little 4 (8 * e)) c' (rw n)
 
+-- as they are written, part after part
+pub trailer_written : (m : List ℕ) (at r e : ℕ) (i j k n : ℕ) (a b c d : List ℕ) → at + 16 ≤ length m
+    → a ≡ fixed → b ≡ r ∷ e ∷ 0 ∷ [] → c ≡ to_le_bytes w32 (8 * (r + e)) → d ≡ to_le_bytes w32 (8 * e)
+    → i ≡ 5 → j ≡ 3 → k ≡ 4 → n ≡ 4
+    → put_mid (at + 12) n (put_mid (at + 8) k (put_mid (at + 5) j (put_mid at i m a) b) c) d ≡ sets m at (trailer_bytes r e)
+trailer_written m at r e i j k n a b c d h p q x y u v w z =
+    let la = part_put m at i a (omega arith) (ap length p ∙ sym u) in
+    let na : length (put_mid at i m a) ≡ length m = ap length la ∙ length-sets m at a in
+    let lb = part_put (put_mid at i m a) (at + 5) j b (omega arith) (ap length q ∙ sym v) in
+    let nb : length (put_mid (at + 5) j (put_mid at i m a) b) ≡ length m = ap length lb ∙ length-sets (put_mid at i m a) (at + 5) b ∙ na in
+    let lc = part_put (put_mid (at + 5) j (put_mid at i m a) b) (at + 8) k c (omega arith) (ap length x ∙ sym w) in
+    let nc : length (put_mid (at + 8) k (put_mid (at + 5) j (put_mid at i m a) b) c) ≡ length m = ap length lc ∙ length-sets (put_mid (at + 5) j (put_mid at i m a) b) (at + 8) c ∙ nb in
+    let ld = part_put (put_mid (at + 8) k (put_mid (at + 5) j (put_mid at i m a) b) c) (at + 12) n d (omega arith) (ap length y ∙ sym z) in
+    trailer_put m at r e (la ∙ ap (sets m at) p) (lb ∙ ap (sets (put_mid at i m a) (at + 5)) q)
+    (lc ∙ ap (sets (put_mid (at + 5) j (put_mid at i m a) b) (at + 8)) (x ∙ le_4 (8 * (r + e))))
+    (ld ∙ ap (sets (put_mid (at + 8) k (put_mid (at + 5) j (put_mid at i m a) b) c) (at + 12)) (y ∙ le_4 (8 * e)))
+
 -- runs, entries and trailer: how long, and their puts are one
 module _ (f : Fields) where
+  pub runs_joined : f.r ≤ length f.runs → flat_map run_bytes (take f.r f.runs) ≡ joined f.r (run_bytes_at f)
+  runs_joined h = items_joined run_bytes f.runs no_run f.r h
+
+  pub entries_joined : f.e ≤ length f.entries → flat_map entry_bytes (take f.e f.entries) ≡ joined f.e (entry_bytes_at f)
+  entries_joined h = items_joined entry_bytes f.entries no_entry f.e h
+
   pub runs_long : length (joined f.r (run_bytes_at f)) ≡ f.r * 8
   runs_long = joined_long (run_bytes_at f) f.r 8 (λ i _. run_long _)
 

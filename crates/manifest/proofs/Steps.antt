@@ -18,9 +18,7 @@ use Rattle.fields.specs.declared.Fields.{Fields}
 use Rattle.fields.specs.Fields.{no_run, no_entry, run_at, entry_at, fields_of}
 use Rattle.fields.specs.Rules.{counts_right, run_right, run_right_at, runs_right, lengths_right, entry_right_at, entries_right, keeps_rules}
 use Rattle.fields.proofs.Facts.{Counts, counts}
-use Rattle.manifest.specs.declared.TrailerRead.TheVariants as trailer
-use Rattle.manifest.specs.declared.RunRead.TheVariants as run
-use Rattle.manifest.specs.declared.EntryRead.TheVariants as entry
+use Rattle.std.specs.Prelude.{Option, Some, None}
 use Rattle.manifest.specs.declared.Counts as two
 use Rattle.manifest.specs.Layout.{size_of, fixed, run_in, entry_in, run_in_at, entry_in_at, placed, fields_at}
 use Rattle.manifest.specs.Reader.{
@@ -98,11 +96,11 @@ got l h =
       size = y.size;
     }
 
-pub trailer_got : (l : List ℕ) (n : two.Counts) → trailer_of l ≡ trailer.Is n → Got l n.r n.e
+pub trailer_got : (l : List ℕ) (n : two.Counts) → trailer_of l ≡ Some n → Got l n.r n.e
 unfolding trailer_of
 trailer_got l n h = go (trailed l) refl h
   where
-    go : (b : Bool) → trailed l ≡ b → pick b (trailer.Is (record { r = runs_in l; e = entries_in l })) trailer.Bad ≡ trailer.Is n → Got l n.r n.e
+    go : (b : Bool) → trailed l ≡ b → pick b (Some (record { r = runs_in l; e = entries_in l })) None ≡ Some n → Got l n.r n.e
     go true e k = let q : n ≡ record { r = runs_in l; e = entries_in l } = cc in rw q (got l e)
     go false e k = let z : true ≡ false = cc in absurd (true≢false z)
 
@@ -114,65 +112,65 @@ trailer_test l t r e a b x y p q f g = rw (p, q, f, g)
 
 -- the trailer's two answers, by a test that was made with r and e
 pub trailer_is : (l : List ℕ) (r e : ℕ) (b : Bool) → 16 ≤ length l → r ≡ runs_in l → e ≡ entries_in l → b ≡ trailer_right l (trailer_at l) r e → b ≡ true
-    → trailer.Is (record { r = r; e = e }) ≡ trailer_of l
+    → Some (record { r = r; e = e }) ≡ trailer_of l
 unfolding trailer_of
 trailer_is l r e b h p q t y =
     let z : trailer_right l (trailer_at l) (runs_in l) (entries_in l) ≡ true = rw (p, q) at (sym t ∙ y) in
-    rw (le-leb 16 (length l) h, z) (λ i. trailer.Is (record { r = p i; e = q i }))
+    rw (le-leb 16 (length l) h, z) (λ i. Some (record { r = p i; e = q i }))
 
-pub trailer_bad : (l : List ℕ) (r e : ℕ) (b : Bool) → r ≡ runs_in l → e ≡ entries_in l → b ≡ trailer_right l (trailer_at l) r e → b ≡ false → trailer.Bad ≡ trailer_of l
+pub trailer_bad : (l : List ℕ) (r e : ℕ) (b : Bool) → r ≡ runs_in l → e ≡ entries_in l → b ≡ trailer_right l (trailer_at l) r e → b ≡ false → None ≡ trailer_of l
 unfolding trailer_of
 trailer_bad l r e b p q t y =
     let z : trailer_right l (trailer_at l) (runs_in l) (entries_in l) ≡ false = rw (p, q) at (sym t ∙ y) in
     rw (z, and-false)
 
-pub trailer_short : (l : List ℕ) → length l < 16 → trailer.Bad ≡ trailer_of l
+pub trailer_short : (l : List ℕ) → length l < 16 → None ≡ trailer_of l
 unfolding trailer_of
 trailer_short l h = rw (lt-leb 16 (length l) h)
 
-pub trailer_not : (l : List ℕ) → trailer_of l ≡ trailer.Bad → trailed l ≡ false
+pub trailer_not : (l : List ℕ) → trailer_of l ≡ None → trailed l ≡ false
 unfolding trailer_of
 trailer_not l h = second (trailed l) _ _ (λ k. cc) h
 
 -- an entry and a run that were read, or not
-pub entry_got : (l : List ℕ) (at : ℕ) (x : Entry) → entry_of l at ≡ entry.Is x → x ≡ entry_in l at
+pub entry_got : (l : List ℕ) (at : ℕ) (x : Entry) → entry_of l at ≡ Some x → x ≡ entry_in l at
 unfolding entry_of
 entry_got l at x e = go (lengths_right (entry_in l at)) e
   where
-    go : (b : Bool) → pick b (entry.Is (entry_in l at)) entry.Bad ≡ entry.Is x → x ≡ entry_in l at
+    go : (b : Bool) → pick b (Some (entry_in l at)) None ≡ Some x → x ≡ entry_in l at
     go true h = cc
     go false h = cc
 
-pub entry_is : (l : List ℕ) (at : ℕ) (x : Entry) → x ≡ entry_in l at → lengths_right x ≡ true → entry.Is x ≡ entry_of l at
+pub entry_is : (l : List ℕ) (at : ℕ) (x : Entry) → x ≡ entry_in l at → lengths_right x ≡ true → Some x ≡ entry_of l at
 unfolding entry_of
-entry_is l at x e h = rw (ap lengths_right (sym e) ∙ h) (ap entry.Is e)
+entry_is l at x e h = rw (ap lengths_right (sym e) ∙ h) (ap Some e)
 
-pub entry_bad : (l : List ℕ) (at : ℕ) (x : Entry) → x ≡ entry_in l at → lengths_right x ≡ false → entry.Bad ≡ entry_of l at
+pub entry_bad : (l : List ℕ) (at : ℕ) (x : Entry) → x ≡ entry_in l at → lengths_right x ≡ false → None ≡ entry_of l at
 unfolding entry_of
 entry_bad l at x e h = rw (ap lengths_right (sym e) ∙ h)
 
-pub entry_not : (l : List ℕ) (at : ℕ) → entry_of l at ≡ entry.Bad → lengths_right (entry_in l at) ≡ false
+pub entry_not : (l : List ℕ) (at : ℕ) → entry_of l at ≡ None → lengths_right (entry_in l at) ≡ false
 unfolding entry_of
 entry_not l at e = second (lengths_right (entry_in l at)) _ _ (λ k. cc) e
 
-pub run_got : (l : List ℕ) (at : ℕ) (x : Run) → run_of l at ≡ run.Is x → (x ≡ run_in l at) × (blank l at ≡ true)
+pub run_got : (l : List ℕ) (at : ℕ) (x : Run) → run_of l at ≡ Some x → (x ≡ run_in l at) × (blank l at ≡ true)
 unfolding run_of
 run_got l at x e = go (blank l at) (run_right (run_in l at)) e
   where
-    go : (b d : Bool) → pick (b && d) (run.Is (run_in l at)) run.Bad ≡ run.Is x → (x ≡ run_in l at) × (b ≡ true)
+    go : (b d : Bool) → pick (b && d) (Some (run_in l at)) None ≡ Some x → (x ≡ run_in l at) × (b ≡ true)
     go true true h = (cc, refl)
     go true false h = (cc, refl)
     go false d h = (cc, cc)
 
-pub run_is : (l : List ℕ) (at : ℕ) (x : Run) (t : Bool) → x ≡ run_in l at → t ≡ run_right x → blank l at && t ≡ true → run.Is x ≡ run_of l at
+pub run_is : (l : List ℕ) (at : ℕ) (x : Run) (t : Bool) → x ≡ run_in l at → t ≡ run_right x → blank l at && t ≡ true → Some x ≡ run_of l at
 unfolding run_of
-run_is l at x t e q h = rw (ap (λ (y : Run). blank l at && run_right y) (sym e) ∙ ap (λ (b : Bool). blank l at && b) (sym q) ∙ h) (ap run.Is e)
+run_is l at x t e q h = rw (ap (λ (y : Run). blank l at && run_right y) (sym e) ∙ ap (λ (b : Bool). blank l at && b) (sym q) ∙ h) (ap Some e)
 
-pub run_bad : (l : List ℕ) (at : ℕ) (x : Run) (t : Bool) → x ≡ run_in l at → t ≡ run_right x → blank l at && t ≡ false → run.Bad ≡ run_of l at
+pub run_bad : (l : List ℕ) (at : ℕ) (x : Run) (t : Bool) → x ≡ run_in l at → t ≡ run_right x → blank l at && t ≡ false → None ≡ run_of l at
 unfolding run_of
 run_bad l at x t e q h = rw (ap (λ (y : Run). blank l at && run_right y) (sym e) ∙ ap (λ (b : Bool). blank l at && b) (sym q) ∙ h)
 
-pub run_not : (l : List ℕ) (at : ℕ) → run_of l at ≡ run.Bad → blank l at && run_right (run_in l at) ≡ false
+pub run_not : (l : List ℕ) (at : ℕ) → run_of l at ≡ None → blank l at && run_right (run_in l at) ≡ false
 unfolding run_of
 run_not l at e = second (blank l at && run_right (run_in l at)) _ _ (λ k. cc) e
 
@@ -189,7 +187,7 @@ entry_breaks f k l h =
 
 -- ---- each way out of the reader
 
-pub out_trailer : (l : List ℕ) → trailer_of l ≡ trailer.Bad → refused_reading ≡ read_manifest l
+pub out_trailer : (l : List ℕ) → trailer_of l ≡ None → refused_reading ≡ read_manifest l
 unfolding read_manifest accepts
 out_trailer l h = rw (trailer_not l h)
 
@@ -201,7 +199,7 @@ module _ (l : List ℕ) (r e : ℕ) (g : Got l r e) where
       let a : keeps_rules (fields_in l) ≡ false = ap (λ (k : ℕ). keeps_rules (fields_at l k (entries_in l))) (sym g.r_is) ∙ ap (λ (k : ℕ). keeps_rules (fields_at l r k)) (sym g.e_is) ∙ h in
       simp (a, and-false)
 
-  pub out_entry : (k : ℕ) → k < e → entry_of l (8 * r + 8 * k) ≡ entry.Bad → refused_reading ≡ read_manifest l
+  pub out_entry : (k : ℕ) → k < e → entry_of l (8 * r + 8 * k) ≡ None → refused_reading ≡ read_manifest l
   unfolding fields_at
   out_entry k b h =
       out_rules
@@ -213,7 +211,7 @@ module _ (l : List ℕ) (r e : ℕ) (g : Got l r e) where
       let a : all_below (runs_in l) (blank_at l) ≡ false = ap (λ (n : ℕ). all_below n (blank_at l)) (sym g.r_is) ∙ sym (all_stop (blank_at l) r k b h) in
       simp (a, and-false)
 
-  pub out_run : (k : ℕ) → k < r → run_of l (8 * k) ≡ run.Bad → refused_reading ≡ read_manifest l
+  pub out_run : (k : ℕ) → k < r → run_of l (8 * k) ≡ None → refused_reading ≡ read_manifest l
   unfolding fields_at
   out_run k b h = go (blank_at l k) refl
     where

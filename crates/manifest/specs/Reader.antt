@@ -1,17 +1,14 @@
 -- What the reader answers: the bytes from the trailer backward, "a field that fails ends it there with 3".
-use Rattle.std.specs.Prelude.{ℕ, ◌+◌, ◌-◌, ◌*◌, Bool, true, false, ◌&&◌, List, [], ◌∷◌, leb, eqb, length, get_or}
+use Rattle.std.specs.Prelude.{ℕ, ◌+◌, ◌-◌, ◌*◌, Bool, true, false, ◌&&◌, Option, Some, None, List, [], ◌∷◌, leb, eqb, length, get_or}
 use Rattle.lists.specs.Below.{pick, all_below}
 use Rattle.lists.specs.Bytes.{part}
 use Rattle.lists.specs.Numbers.{little_at}
+use Rattle.fields.specs.declared.Run.{Run}
+use Rattle.fields.specs.declared.Entry.{Entry}
 use Rattle.fields.specs.declared.Fields.{Fields}
 use Rattle.fields.specs.Fields.{fields_of, zero_fields}
 use Rattle.fields.specs.Rules.{counts_right, run_right, lengths_right, keeps_rules}
-use Rattle.manifest.specs.declared.TrailerRead.{TrailerRead}
-use Rattle.manifest.specs.declared.TrailerRead.TheVariants as trailer
-use Rattle.manifest.specs.declared.RunRead.{RunRead}
-use Rattle.manifest.specs.declared.RunRead.TheVariants as run
-use Rattle.manifest.specs.declared.EntryRead.{EntryRead}
-use Rattle.manifest.specs.declared.EntryRead.TheVariants as entry
+use Rattle.manifest.specs.declared.Counts.{Counts}
 use Rattle.manifest.specs.declared.Reading.{Reading}
 use Rattle.manifest.specs.Layout.{item_size, trailer_size, size_of, fixed, run_in, entry_in, fields_at}
 
@@ -49,8 +46,8 @@ abbrev pub trailed : List ℕ → Bool
 trailed l = leb trailer_size (length l) && trailer_right l (trailer_at l) (runs_in l) (entries_in l)
 
 -- the trailer's answer
-unfoldable pub trailer_of : List ℕ → TrailerRead
-trailer_of l = pick (trailed l) (trailer.Is (record { r = runs_in l; e = entries_in l })) trailer.Bad
+unfoldable pub trailer_of : List ℕ → Option Counts
+trailer_of l = pick (trailed l) (Some (record { r = runs_in l; e = entries_in l })) None
 
 -- "a zero" after a run's kind
 abbrev pub blank : List ℕ → ℕ → Bool
@@ -60,11 +57,11 @@ abbrev pub blank_at : List ℕ → ℕ → Bool
 blank_at l k = blank l (item_size * k)
 
 -- a run's and an entry's answer, each by itself
-unfoldable pub run_of : List ℕ → ℕ → RunRead
-run_of l at = pick (blank l at && run_right (run_in l at)) (run.Is (run_in l at)) run.Bad
+unfoldable pub run_of : List ℕ → ℕ → Option Run
+run_of l at = pick (blank l at && run_right (run_in l at)) (Some (run_in l at)) None
 
-unfoldable pub entry_of : List ℕ → ℕ → EntryRead
-entry_of l at = pick (lengths_right (entry_in l at)) (entry.Is (entry_in l at)) entry.Bad
+unfoldable pub entry_of : List ℕ → ℕ → Option Entry
+entry_of l at = pick (lengths_right (entry_in l at)) (Some (entry_in l at)) None
 
 -- the fields in bytes, by their trailer
 abbrev pub fields_in : List ℕ → Fields

@@ -26,7 +26,8 @@ use Rattle.fields.proofs.PageLaws.{code_page, page_small}
 use Rattle.manifest.specs.Layout.{item_size, size_of, fixed, run_bytes, entry_bytes, trailer_bytes, run_bytes_at, entry_bytes_at, encode, run_in, entry_in, run_in_at, entry_in_at, placed, fields_at}
 use Rattle.manifest.specs.Reader.{equal, trailer_at, runs_in, entries_in, trailer_right, blank_at, fields_in, accepts, read_manifest}
 use Rattle.manifest.proofs.Places.{placed_is}
-use Rattle.manifest.proofs.Puts.{run_long, entry_long, runs_long, entries_long, encode_long}
+use Rattle.manifest.specs.Items.{run_long, entry_long}
+use Rattle.manifest.proofs.Puts.{runs_long, entries_long, encode_long}
 use Rattle.round.specs.Round.{Shaped}
 
 -- ---- a run and an entry out of their bytes

@@ -6,7 +6,7 @@ ghost use Rattle.state.specs.Zero.{zero_slot};
 ghost use Rattle.geometry.specs.Geometry.{pcr_count};
 ghost use Rattle.state.specs.Slots.{entry_found, extended_slot};
 
-use fields::{Entry, Fields, Run};
+use fields::{Entry, Fields};
 use geometry::Geometry;
 use sha_1::Digest;
 
@@ -58,22 +58,6 @@ impl Slot {
     pub fn zero() -> Slot
         ensures { result ≡ zero_slot }
     {
-        let run = Run {
-            kind: 0,
-            count: 0,
-            first: 0,
-        };
-        let entry = Entry {
-            address: 0,
-            input: 0,
-            output: 0,
-        };
-        let fields = Fields {
-            r: 0,
-            e: 0,
-            runs: [run; Fields::RUNS],
-            entries: [entry; Fields::ENTRIES],
-        };
         let pcr = Digest {
             bytes: [0u8; Geometry::DIGEST],
         };
@@ -81,7 +65,7 @@ impl Slot {
             card: Card {
                 registered: false,
                 mark: 0,
-                fields: fields,
+                fields: Fields::NONE,
             },
             pcrs: [pcr; Geometry::PCRS],
         }
