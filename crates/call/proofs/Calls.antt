@@ -8,8 +8,10 @@ use native.Mathlib.Decide.{ℕ_discrete}
 use lib.ListN.{length, get_or}
 use lib.Seq.{sets}
 use lib.Dec.{ltb, eqb}
-use borrow.Author.Tests.{lt-ltb, eqb-true, ltb-true}
+use borrow.Author.Tests.{eqb-true, ltb-true}
 use Rattle.lists.specs.Below.{any_below}
+use Rattle.lists.specs.Places.{if_below}
+use Rattle.lists.proofs.Places.{position_first}
 use Rattle.lists.specs.Bytes.{part}
 use Rattle.lists.proofs.Logic.{and_l, and_r, decided}
 use Rattle.lists.proofs.Any.{any_find, any_hit}
@@ -22,7 +24,7 @@ use Rattle.fields.specs.Fields.{entry_places, entry_at}
 use Rattle.fields.specs.Pages.{is_param_at, param_of}
 use Rattle.fields.proofs.Facts.{kept}
 use Rattle.fields.proofs.PageLaws.{param, param_page}
-use Rattle.std.specs.Prelude.{Some, None}
+use Rattle.std.specs.Prelude.{Some, None, position}
 use Rattle.state.specs.Slots.{entry_found}
 use Rattle.state.specs.declared.Card.{Card}
 use Rattle.state.specs.declared.Slot.{Slot}
@@ -30,7 +32,7 @@ use Rattle.state.specs.declared.Mode.{Mode}
 use Rattle.state.specs.declared.Mode.TheVariants.{Legacy, Secure}
 use Rattle.state.specs.declared.Running.{Running}
 use Rattle.state.specs.declared.State.{State}
-use Rattle.state.specs.Zero.{no_slot, zero_slot, zero_running}
+use Rattle.state.specs.Zero.{no_slot, zero_running}
 use Rattle.state.specs.Face.{Face, face_of, pcrs_of, card_at, is_open, state_of}
 use Rattle.state.proofs.Faces.{card_at_lem, slots_back}
 use Rattle.wellformed.specs.WellFormed.{state_right, well_formed, output_at, out_right}
@@ -50,8 +52,8 @@ use Rattle.change.specs.declared.Change.{Change}
 use Rattle.change.specs.declared.Turn.TheVariants.{Enters, Leaves}
 use Rattle.change.specs.Turns.{in_mode, turn_of, Settles}
 use Rattle.call.specs.declared.places.Sought.{Sought}
-use Rattle.call.specs.Sought.{sought_in}
-use Rattle.call.proofs.Entries.{entry_at_lem}
+use Rattle.call.specs.Sought.{callable_in, sought_in}
+use Rattle.call.proofs.Entries.{entry_at_lem, some_below}
 
 module _ (s : State) (h : state_right s ≡ true) where
   -- entries in use have places
@@ -131,22 +133,53 @@ mode_state s e m x =
 pub open_by : (s : State) (a n v : ℕ) → Owned s (page_of a) v → unlooked n (is_open (face_of s) (page_of a)) ≡ unlooked n (ltb (page_of a) s.pages && eqb v 0)
 open_by s a n v e = ap (λ (w : ℕ). unlooked n (ltb (page_of a) s.pages && eqb w 0)) (sym e)
 
+-- the place of the first slot that the code would call
+module _ (s : State) (h : state_right s ≡ true) (e : length s.slots ≡ slot_count) (mark a : ℕ) where
+  callable_same : (k : ℕ) → k < length s.slots → callable_at (face_of s) mark a k ≡ callable_in (get_or s.slots k no_slot).card mark a
+  callable_same k l =
+      let y = (get_or s.slots k no_slot).card in
+      ap (λ (x : Card). under_mark x mark && ltb (entry_of x.fields a) x.fields.e) (card_at_lem s.slots k)
+      ∙ ap (λ (b : Bool). under_mark y mark && b) (sym (some_below y a (few_entries s h k (omega (arith, e)))))
+
+  pub place_found : position (λ (x : Slot). callable_in x.card mark a) s.slots ≡ if_below slot_count (slot_for (face_of s) mark a)
+  unfolding slot_for
+  place_found = position_first (λ (x : Slot). callable_in x.card mark a) no_slot (callable_at (face_of s) mark a) s.slots callable_same slot_count e
+
 -- a slot that was sought and found, and one that was not
 module _ (s : State) (j : ℕ) where
-  pub sought_at : (k : ℕ) → k < slot_count → k ≡ j → record { k = k; slot = get_or s.slots k no_slot } ≡ sought_in s j
-  sought_at k l e = subst (λ (i : ℕ). record { k = k; slot = get_or s.slots k no_slot } ≡ sought_in s i) e (rw (lt-ltb k slot_count l))
+  pub sought_at : (k : ℕ) → Some k ≡ if_below slot_count j → Some (record { k = k; slot = get_or s.slots k no_slot }) ≡ sought_in s j
+  sought_at k e =
+      decided (ltb j slot_count)
+      (λ t. let q = rw t at e in let g : k ≡ j = cc in rw (t, g))
+      (λ t. let q = rw t at e in cc)
 
-  pub sought_none : {x : Slot} → x ≡ zero_slot → slot_count ≡ j → record { k = slot_count; slot = x } ≡ sought_in s j
-  sought_none {x} h e = subst (λ (i : ℕ). record { k = slot_count; slot = x } ≡ sought_in s i) e (ap (λ (y : Slot). record { k = slot_count; slot = y }) h)
+  pub sought_none : None ≡ if_below slot_count j → None ≡ sought_in s j
+  sought_none e =
+      decided (ltb j slot_count)
+      (λ t. let q = rw t at e in cc)
+      (λ t. rw t)
 
-  module _ (x : Sought) (e : x ≡ sought_in s j) where
+  module _ (x : Sought) (e : Some x ≡ sought_in s j) where
+    sought_both : (j < slot_count) × (x ≡ record { k = j; slot = get_or s.slots j no_slot })
+    sought_both =
+        decided (ltb j slot_count)
+        (λ t. let q = rw t at e in (ltb-true j slot_count t, cc))
+        (λ t. let q = rw t at e in cc)
+
     pub sought_k : x.k ≡ j
-    sought_k = ap (λ (y : Sought). y.k) e
+    sought_k = ap (λ (y : Sought). y.k) sought_both.1
 
-    pub sought_slot : x.k < slot_count → IsSlot s x.k x.slot
-    sought_slot l =
-        let n : j < slot_count = omega (arith, sought_k) in
-        ap (λ (y : Sought). y.slot) e ∙ rw (lt-ltb j slot_count n, sought_k)
+    pub sought_below : x.k < slot_count
+    sought_below = omega (arith, sought_both.0, sought_k)
+
+    pub sought_slot : IsSlot s x.k x.slot
+    sought_slot = ap (λ (y : Sought). y.slot) sought_both.1 ∙ ap (λ (i : ℕ). get_or s.slots i no_slot) (sym sought_k)
+
+  pub sought_past : None ≡ sought_in s j → ltb j slot_count ≡ false
+  sought_past e =
+      decided (ltb j slot_count)
+      (λ t. let q = rw t at e in cc)
+      (λ t. t)
 
 -- the entry that a slot at hand has is the state's
 pub entry_by : (s : State) (k : ℕ) (x : Slot) (a : ℕ) → IsSlot s k x → entry_found (get_or s.slots k no_slot).card a ≡ entry_found x.card a

@@ -68,7 +68,8 @@ fn call_entry(
         places::param_start(&slot.card.fields),
         n,
     );
-    let running = switch::entering(k, output, m);
+    let mut running = s.running;
+    switch::monitor_enter(&mut running, k, output, m);
     change::turned(Answer::Entered(k), Turn::Enters(running))
 }
 
@@ -86,13 +87,10 @@ pub fn call(
     requires { (well_formed s (length memory.old) ≡ true) × (Owned s (page_of input) from × Owned s (page_of output) to) }
     ensures { Acts (call_rule (face_of s) mark address input output) s memory.old result memory.new }
 {
-    let found = places::slot_for(s, mark, address);
-    if Geometry::SLOTS <= found.k {
+    let Some(found) = places::slot_for(s, mark, address) else {
         return change::kept(Answer::Refused(Refusal::NotFound));
-    }
-    let slot = found.slot;
-    let entry = slot.entry_found(address);
-    match entry {
+    };
+    match found.slot.entry_found(address) {
         Some(x) => call_entry(s, from, to, memory, found, x, input, output),
         None => change::kept(Answer::Refused(Refusal::NotFound)),
     }

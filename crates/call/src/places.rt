@@ -1,13 +1,13 @@
 // Which slot and entry a call names, and where the param page is.
-ghost use Rattle.std.specs.Prelude.{◌≡◌, true, ◌&&◌, ◌≤◌, ◌<◌, ltb};
+ghost use Rattle.std.specs.Prelude.{◌≡◌, true, ◌≤◌, ◌<◌, position};
 ghost use Rattle.lists.specs.Below.{any_below};
 ghost use Rattle.geometry.specs.Geometry.{start_of, most_pages};
-ghost use Rattle.fields.specs.Fields.{run_places, entry_places};
+ghost use Rattle.fields.specs.Fields.{run_places};
 ghost use Rattle.fields.specs.Pages.{is_param_at, param_of};
 ghost use Rattle.state.specs.Face.{face_of};
 ghost use Rattle.wellformed.specs.WellFormed.{state_right};
-ghost use Rattle.rules.specs.Tests.{under_mark, entry_of, slot_for};
-ghost use Rattle.call.specs.Sought.{sought_in};
+ghost use Rattle.rules.specs.Tests.{slot_for};
+ghost use Rattle.call.specs.Sought.{callable_in, sought_in};
 
 use fields::Fields;
 use geometry::Geometry;
@@ -15,42 +15,35 @@ use state::{Slot, State};
 
 // The slot is registered under the mark, and has an entry at the address.
 fn callable(slot: Slot, mark: u64, address: usize) -> bool
-    requires { slot.card.fields.e ≤ entry_places }
-    ensures { result ≡ under_mark slot.card mark && ltb (entry_of slot.card.fields address) slot.card.fields.e }
+    ensures { result ≡ callable_in slot.card mark address }
 {
-    let registered = slot.card.registered;
-    let under = slot.card.mark;
-    if registered & (under == mark) {
-        return slot.entry_found(address).is_some();
-    }
-    false
+    slot.card.registered && slot.card.mark == mark && slot.entry_found(address).is_some()
 }
 
-// A slot and its number; none: 8, and a zero slot.
+// The place of the first such slot.
+fn place_for(slots: &[Slot; Geometry::SLOTS], mark: u64, address: usize) -> Option<usize>
+    ensures { result ≡ position (λ x. callable_in x.card mark address) slots.now }
+{
+    slots.iter().position(|slot| callable(*slot, mark, address))
+}
+
+// A slot and its number.
 #[derive(Clone, Copy)]
 pub struct Sought {
     pub k: usize,
     pub slot: Slot,
 }
 
-// The lowest such slot.
-pub fn slot_for(s: State, mark: u64, address: usize) -> Sought
+// The lowest such slot, if there is one.
+pub fn slot_for(s: State, mark: u64, address: usize) -> Option<Sought>
     requires { state_right s ≡ true }
     ensures { result ≡ sought_in s (slot_for (face_of s) mark address) }
 {
-    let mut k: usize = 0;
-    while k < Geometry::SLOTS {
-        let slot = s.slots[k];
-        if callable(slot, mark, address) {
-            return Sought { k, slot: slot };
-        }
-        k += 1;
-    }
-    let zero = Slot::zero();
-    Sought {
-        k: Geometry::SLOTS,
-        slot: zero,
-    }
+    let k = place_for(&s.slots, mark, address)?;
+    Some(Sought {
+        k,
+        slot: s.slots[k],
+    })
 }
 
 // The param page of runs that have one.

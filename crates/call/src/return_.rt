@@ -17,10 +17,8 @@ pub fn return_(s: State, slot: Slot, memory: &mut [u8], k: usize) -> Change
     requires { (well_formed s (length memory.old) ≡ true) × ((s.mode ≡ Mode.Secure k) × IsSlot s k slot) }
     ensures { Acts (return_rule (face_of s) k) s memory.old result memory.new }
 {
-    let held = s.running;
-    let left = switch::leaving(held);
-    let was = left.was;
-    let rest = left.rest;
+    let mut rest = s.running;
+    let was = switch::monitor_leave(&mut rest);
     let from = places::param_start(&slot.card.fields) + Geometry::HALF;
     memory::move_bytes(memory, from, was.out, was.length);
     change::turned(Answer::Left(was.length), Turn::Leaves(rest))

@@ -1,3 +1,4 @@
 pub mod Opened
 pub mod Gathered
 pub mod Registers
+pub mod FreeSlot

@@ -1,6 +1,8 @@
 // Whether the pages of runs are open, and which slot is free.
-ghost use Rattle.std.specs.Prelude.{◌≡◌, ◌&&◌};
+ghost use Rattle.std.specs.Prelude.{◌≡◌, ◌&&◌, not, position};
 ghost use Rattle.lists.specs.Below.{all_below};
+ghost use Rattle.lists.specs.Places.{if_below};
+ghost use Rattle.geometry.specs.Geometry.{slot_count};
 ghost use Rattle.fields.specs.Pages.{pages_under};
 ghost use Rattle.painting.specs.Painting.{RunsFit, owned_run};
 ghost use Rattle.state.specs.Face.{face_of};
@@ -8,7 +10,7 @@ ghost use Rattle.rules.specs.Tests.{free_slot};
 
 use fields::Fields;
 use geometry::Geometry;
-use state::State;
+use state::{Slot, State};
 
 fn all_under(pages: usize, f: &Fields) -> bool
     requires { RunsFit f.now }
@@ -27,18 +29,16 @@ pub fn all_open(pages: usize, owner: &[u8; Geometry::MOST_PAGES], f: &Fields) ->
     under & open
 }
 
-// "Takes the lowest free slot"; none: 8.
-pub fn free_slot(s: State) -> usize
-    ensures { result ≡ free_slot (face_of s) }
+// The place of the first free slot.
+fn place_free(slots: &[Slot; Geometry::SLOTS]) -> Option<usize>
+    ensures { result ≡ position (λ x. not x.card.registered) slots.now }
 {
-    let mut k: usize = 0;
-    while k < Geometry::SLOTS {
-        let slot = s.slots[k];
-        let registered = slot.card.registered;
-        if !registered {
-            return k;
-        }
-        k += 1;
-    }
-    Geometry::SLOTS
+    slots.iter().position(|slot| !slot.card.registered)
+}
+
+// "Takes the lowest free slot", if there is one.
+pub fn free_slot(s: State) -> Option<usize>
+    ensures { result ≡ if_below slot_count (free_slot (face_of s)) }
+{
+    place_free(&s.slots)
 }

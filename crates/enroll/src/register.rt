@@ -9,7 +9,6 @@ ghost use Rattle.change.specs.Turns.{Settles};
 use crate::{free, measure};
 use change::Change;
 use events::{Answer, Refusal};
-use geometry::Geometry;
 use state::State;
 
 pub fn register(s: State, payload: &[u8], memory: &[u8], mark: u64) -> Change
@@ -24,10 +23,9 @@ pub fn register(s: State, payload: &[u8], memory: &[u8], mark: u64) -> Change
     if !free::all_open(s.pages, &s.owner, &fields) {
         return change::kept(Answer::Refused(Refusal::NotOpen));
     }
-    let k = free::free_slot(s);
-    if Geometry::SLOTS <= k {
+    let Some(k) = free::free_slot(s) else {
         return change::kept(Answer::Refused(Refusal::NoFreeSlot));
-    }
+    };
     let digest = measure::measured(memory, &fields);
     change::enrolling(k, mark, fields, digest)
 }

@@ -9,3 +9,4 @@ pub mod Parts
 pub mod Pages
 pub mod Numbers
 pub mod Finds
+pub mod Places

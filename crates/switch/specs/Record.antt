@@ -9,13 +9,16 @@ use Rattle.state.specs.Face.{Face}
 use Rattle.rules.specs.Plan.{move}
 use Rattle.rules.specs.Tests.{kept_as, with_mode}
 use Rattle.rules.specs.Decide.{entered, return_rule, out_from}
-use Rattle.switch.specs.declared.Left.{Left}
 
 -- "the running record holds slot, out address and the entry's output length"
 abbrev pub entered_record : ℕ → ℕ → ℕ → Running
 entered_record k a n = record { slot = k; out = kept_as n a; length = n }
 
--- the record as it was, and zero in its place
+-- what leaving hands out, the record as it was, and what stands in its place, zero
+pub record Left : Type 0 where
+  pub was : Running
+  pub rest : Running
+
 abbrev pub left_of : Running → Left
 left_of r = record { was = r; rest = zero_running }
 

@@ -4,43 +4,26 @@
 ghost use Rattle.std.specs.Prelude.{◌≡◌};
 ghost use Rattle.state.specs.Zero.{zero_running};
 ghost use Rattle.rules.specs.Tests.{kept_as};
-ghost use Rattle.switch.specs.Record.{entered_record, left_of, CallEnters, ReturnLeaves};
+ghost use Rattle.switch.specs.Record.{entered_record, CallEnters, ReturnLeaves};
 
 use state::Running;
-
-// What leaving hands out: the record as it was, which Return needs, and what stands in its place.
-#[derive(Clone, Copy)]
-pub struct Left {
-    pub was: Running,
-    pub rest: Running,
-}
 
 // "A length of 0 in the entry means that address isn't looked at and is kept as 0."
 pub fn kept_as(length: usize, address: usize) -> usize
     ensures { result ≡ kept_as length address }
 {
-    if length == 0 {
-        return 0;
-    }
-    address
-}
-
-fn entered(slot: usize, out: usize, length: usize) -> Running
-    ensures { result ≡ entered_record slot out length }
-{
-    let kept = kept_as(length, out);
-    Running {
-        slot,
-        out: kept,
-        length,
-    }
+    if length == 0 { 0 } else { address }
 }
 
 // Entering: the lent record becomes that of the call that begins. Firmware in C calls it too, and `monitor_leave`.
 pub fn monitor_enter(running: &mut Running, slot: usize, out: usize, length: usize)
     ensures { running.new ≡ entered_record slot out length }
 {
-    *running = entered(slot, out, length);
+    *running = Running {
+        slot,
+        out: kept_as(length, out),
+        length,
+    };
 }
 
 // Leaving: the caller has the record as it was, and the lent one is zero.
@@ -54,27 +37,6 @@ pub fn monitor_leave(running: &mut Running) -> Running
         length: 0,
     };
     was
-}
-
-// The same by value, for the events: a local is lent, and callers are covered.
-pub fn entering(slot: usize, out: usize, length: usize) -> Running
-    ensures { result ≡ entered_record slot out length }
-{
-    let mut w = Running {
-        slot: 0,
-        out: 0,
-        length: 0,
-    };
-    monitor_enter(&mut w, slot, out, length);
-    w
-}
-
-pub fn leaving(r: Running) -> Left
-    ensures { result ≡ left_of r }
-{
-    let mut w = r;
-    let was = monitor_leave(&mut w);
-    Left { was: was, rest: w }
 }
 
 // What Call's rule puts into the state's record is what `monitor_enter` leaves in the lent one.

@@ -4,8 +4,6 @@ use Rattle.events.specs.contracts.U8FromRefusal.from as events_number
 use Rattle.switch.specs.contracts.monitor_enter as switch_monitor_enter
 use Rattle.switch.specs.contracts.monitor_leave as switch_monitor_leave
 use Rattle.switch.specs.contracts.kept_as as switch_kept_as
-use Rattle.switch.specs.contracts.entering as switch_entering
-use Rattle.switch.specs.contracts.leaving as switch_leaving
 use Rattle.touch.specs.contracts.pages.is_open as touch_is_open
 use Rattle.touch.specs.contracts.pages.is_own as touch_is_own
 use Rattle.touch.specs.contracts.pages.in_code_of as touch_in_code_of
@@ -62,8 +60,6 @@ pub record Events : Type 0 where
   pub switch_monitor_enter_one : OneOutcome switch_monitor_enter.ended switch_monitor_enter_says
   pub switch_monitor_leave_one : OneOutcome switch_monitor_leave.ended switch_monitor_leave_says
   pub switch_kept_as_one : OneOutcome switch_kept_as.ended (λ κs a z e. told ((switch_kept_as.clauses w₀.𝓛 w₀.𝓜.mem w₀.𝓡.run κs a).ensures tt z e) (r_last _))
-  pub switch_entering_one : OneOutcome switch_entering.ended (λ κs a z e. told ((switch_entering.clauses w₀.𝓛 w₀.𝓜.mem w₀.𝓡.run κs a).ensures tt z e) (r_last _))
-  pub switch_leaving_one : OneOutcome switch_leaving.ended (λ κs a z e. told ((switch_leaving.clauses w₀.𝓛 w₀.𝓜.mem w₀.𝓡.run κs a).ensures tt z e) (r_last _))
   pub touch_is_open_one : OneOutcome touch_is_open.ended (λ κs a z e. told ((touch_is_open.clauses w₀.𝓛 w₀.𝓜.mem w₀.𝓡.run κs a).ensures tt z e) (r_last _))
   pub touch_is_own_one : OneOutcome touch_is_own.ended (λ κs a z e. told ((touch_is_own.clauses w₀.𝓛 w₀.𝓜.mem w₀.𝓡.run κs a).ensures tt z e) (r_last _))
   pub touch_in_code_of_one : OneOutcome touch_in_code_of.ended (λ κs a z e. told ((touch_in_code_of.clauses w₀.𝓛 w₀.𝓜.mem w₀.𝓡.run κs a).ensures tt z e) (r_last _))

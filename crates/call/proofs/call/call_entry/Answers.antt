@@ -63,4 +63,4 @@ returns c = λ payload.
     ∙ (λ i. sets m ((c.param_start.ensures ∙ ap start_of (param_same a.s h a.found.k w.1.1.0.0 w.1.1.1.0 a.found.slot w.1.1.0.1)) i) (part m (c.kept_as.ensures i) a.x.input))
     ∙ ap (sets m _) (kept_part m a.input a.x.input) in
     rw (enter_on (face_of a.s) a.found.k a.x a.input a.output (sym c.in_range.ensures ∙ c.if-not-in_range.false) (sym c.in_range-2.ensures ∙ c.if-not-in_range-2.false) (open_by a.s a.input a.x.input a.from c.requires.1.0.0 ∙ sym c.on_open.ensures ∙ c.if-not-on_open.false) (open_by a.s a.output a.x.output a.to c.requires.1.0.1 ∙ sym c.on_open-2.ensures ∙ c.if-not-on_open-2.false))
-    (entered_settles a.s (state_shape a.s _ c.well_formed.0).slots_long a.found.k a.x a.input a.output payload m _ c.entering-running.result _ c.entering-running.ensures c.turned.ensures e)
+    (entered_settles a.s (state_shape a.s _ c.well_formed.0).slots_long a.found.k a.x a.input a.output payload m _ c.monitor_enter.new.running _ c.monitor_enter.ensures c.turned.ensures e)

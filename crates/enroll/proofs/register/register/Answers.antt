@@ -14,7 +14,8 @@ use Rattle.sha_1.specs.Sha1.{sha1}
 use Rattle.geometry.specs.Geometry.{page_size, slot_count}
 use Rattle.lists.specs.Bytes.{gather}
 use Prim.Native.Nat.{ℕ}
-use borrow.Author.Tests.{eq-eqb, ne_eqb, lt-ltb, le-ltb}
+use borrow.Author.Tests.{eq-eqb, ne_eqb, ltb-true}
+use Rattle.enroll.proofs.FreeSlot.{found_at, not_found}
 use mathlib.Core.List.{List, []}
 use mathlib.Core.Path.{◌≡◌, sym, ap, ◌∙◌}
 use mathlib.Core.Bool.{Bool, ◌&&◌}
@@ -54,17 +55,17 @@ returns-then-not-all_open c =
     a.payload.now a.s a.memory.now
     (still_settles a.s (state_shape a.s _ c.well_formed.0).slots_long nothing (answer.Refused NotOpen) a.payload.now a.memory.now _ c.kept-then-not-all_open.ensures)
 
-pub returns-then-k-ge-SLOTS : goal.returns-then-k-ge-SLOTS
-returns-then-k-ge-SLOTS c =
+pub returns-in_default : goal.returns-in_default
+returns-in_default c =
     let a = c.args in
     let f = face_of a.s in
     let r = c.read-reading.result in
     let q = c.read-reading.ensures in
     let z = c.if-reading-ne0.false in
     let o = open_so f r.fields _ (read_kept _ r q z) c.all_open.ensures ∙ c.if-not-all_open.false in
-    to_plan (sym (register_7 f a.mark r (eq-eqb r.refusal 0 z) o (le-ltb (free_slot f) slot_count (omega (arith, c.free_slot-k.ensures, c.if-k-ge-SLOTS.true)))) ∙ ap (λ (x : Reading). register_rule f a.mark x) q)
+    to_plan (sym (register_7 f a.mark r (eq-eqb r.refusal 0 z) o (not_found slot_count (free_slot f) (sym c.in_default.is ∙ c.free_slot.ensures))) ∙ ap (λ (x : Reading). register_rule f a.mark x) q)
     a.payload.now a.s a.memory.now
-    (still_settles a.s (state_shape a.s _ c.well_formed.0).slots_long nothing (answer.Refused NoFreeSlot) a.payload.now a.memory.now _ c.kept-then-k-ge-SLOTS.ensures)
+    (still_settles a.s (state_shape a.s _ c.well_formed.0).slots_long nothing (answer.Refused NoFreeSlot) a.payload.now a.memory.now _ c.kept-in_default.ensures)
 
 pub measured-digest-requires : goal.measured-digest-requires
 measured-digest-requires c =
@@ -82,9 +83,9 @@ returns c =
     let z = c.if-reading-ne0.false in
     let k = read_kept _ r q z in
     let o = open_so f r.fields _ k c.all_open.ensures ∙ c.if-not-all_open.false in
-    let n = c.free_slot-k.ensures in
-    let p = ap (λ (j : ℕ). registered f j a.mark r.fields) n
-    ∙ sym (register_on f a.mark r (eq-eqb r.refusal 0 z) o (lt-ltb (free_slot f) slot_count (omega (arith, n, c.if-k-ge-SLOTS.false))))
+    let n = found_at slot_count (free_slot f) c.in-Some.k c.in-Some.ensures in
+    let p = ap (λ (j : ℕ). registered f j a.mark r.fields) n.0
+    ∙ sym (register_on f a.mark r (eq-eqb r.refusal 0 z) o n.1)
     ∙ ap (λ (x : Reading). register_rule f a.mark x) q in
     to_plan p a.payload.now a.s a.memory.now
-    (registered_settles a.s (state_shape a.s _ c.well_formed.0).slots_long c.free_slot-k.result c.if-k-ge-SLOTS.false a.mark r.fields (kept_fit _ k) a.payload.now a.memory.now c.measured-digest.result _ c.measured-digest.ensures c.enrolling.ensures)
+    (registered_settles a.s (state_shape a.s _ c.well_formed.0).slots_long c.in-Some.k (omega (arith, n.0, ltb-true (free_slot f) slot_count n.1)) a.mark r.fields (kept_fit _ k) a.payload.now a.memory.now c.measured-digest.result _ c.measured-digest.ensures c.enrolling.ensures)
