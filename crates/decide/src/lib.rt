@@ -23,7 +23,8 @@ use state::{Mode, State};
 use touch::{pcr_read, read, write};
 use wellformed::Sight;
 
-// What an event looks at: a slot, and two pages.
+// What an event looks at: a slot, and two pages. One that looks at fewer has any number there: the test hands out a slot and two owners each time
+// (`wellformed::Sight`), and no branch is spent on leaving one out.
 #[derive(Clone, Copy)]
 pub struct Look {
     pub slot: usize,
@@ -42,8 +43,7 @@ pub fn looking(event: Event, mode: Mode) -> Look
 pub fn looked(event: Event, s: State) -> Sight
     ensures { result ≡ Looks.looked event s }
 {
-    let mode = s.mode;
-    let look = looking(event, mode);
+    let look = looking(event, s.mode);
     wellformed::seen(s, look.slot, look.page, look.other)
 }
 
@@ -59,8 +59,7 @@ fn dispatch(
     requires { (well_formed s (length memory.old) ≡ true) × ((Allowed.allowed s.mode event ≡ true) × Looks.Sees s event x) }
     ensures { Allowed.Comes s result memory.new buffer.new (act (rule_in s.mode (face_of s) (length buffer.old) (length payload.now) (read_manifest payload.now) event) payload.now buffer.old (pcrs_of s) memory.old) }
 {
-    let mode = s.mode;
-    let k = modes::slot_in(mode);
+    let k = modes::slot_in(s.mode);
     let slot = x.slot;
     let v = x.page;
     match event {
@@ -109,8 +108,7 @@ pub fn decided(
     if memory.len() != Geometry::start_of(s.pages) {
         return kept(Answer::Refused(Refusal::NotWellFormed));
     }
-    let mode = s.mode;
-    if !modes::allowed(mode, event) {
+    if !modes::allowed(s.mode, event) {
         return kept(Answer::Refused(Refusal::NotInThisMode));
     }
     dispatch(event, payload, s, x, memory, buffer)

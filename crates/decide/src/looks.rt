@@ -21,32 +21,20 @@ pub fn looks(event: Event, k: usize) -> Look
     ensures { result ≡ Looks.looks event k }
 {
     match event {
-        Event::Register { mark: _ } => at(k, 0),
-        Event::Unregister { mark: _, slot } => at(slot, 0),
-        Event::Call {
-            mark: _,
-            address: _,
-            input,
-            output,
-        } => {
+        Event::Register { .. } | Event::Return | Event::PcrRead { .. } => at(k, 0),
+        Event::Unregister { slot, .. } => at(slot, 0),
+        Event::Call { input, output, .. } => {
             Look {
                 slot: k,
                 page: input / Geometry::PAGE,
                 other: output / Geometry::PAGE,
             }
         }
-        Event::Return => at(k, 0),
-        Event::Jump { address } => at(k, address / Geometry::PAGE),
-        Event::Read { address, length: _ } => at(k, address / Geometry::PAGE),
-        Event::Write { address } => at(k, address / Geometry::PAGE),
-        Event::DeviceRead { address, length: _ } => at(k, address / Geometry::PAGE),
-        Event::DeviceWrite { address } => at(k, address / Geometry::PAGE),
-        Event::Extend {
-            index: _,
-            source: _,
-            address,
-            length: _,
-        } => at(k, address / Geometry::PAGE),
-        Event::PcrRead { index: _ } => at(k, 0),
+        Event::Jump { address }
+        | Event::Read { address, .. }
+        | Event::Write { address }
+        | Event::DeviceRead { address, .. }
+        | Event::DeviceWrite { address }
+        | Event::Extend { address, .. } => at(k, address / Geometry::PAGE),
     }
 }

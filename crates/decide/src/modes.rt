@@ -8,10 +8,7 @@ use state::Mode;
 fn is_legacy(mode: Mode) -> bool
     ensures { result ≡ Allowed.is_legacy mode }
 {
-    match mode {
-        Mode::Legacy => true,
-        Mode::Secure(_) => false,
-    }
+    matches!(mode, Mode::Legacy)
 }
 
 // The slot that runs; in legacy mode 0.
@@ -30,32 +27,12 @@ pub fn allowed(mode: Mode, event: Event) -> bool
 {
     let legacy = is_legacy(mode);
     match event {
-        Event::Register { mark: _ } => legacy,
-        Event::Unregister { mark: _, slot: _ } => legacy,
-        Event::Call {
-            mark: _,
-            address: _,
-            input: _,
-            output: _,
-        } => legacy,
-        Event::Return => !legacy,
-        Event::Jump { address: _ } => true,
-        Event::Read {
-            address: _,
-            length: _,
-        } => true,
-        Event::Write { address: _ } => true,
-        Event::DeviceRead {
-            address: _,
-            length: _,
-        } => true,
-        Event::DeviceWrite { address: _ } => true,
-        Event::Extend {
-            index: _,
-            source: _,
-            address: _,
-            length: _,
-        } => !legacy,
-        Event::PcrRead { index: _ } => !legacy,
+        Event::Register { .. } | Event::Unregister { .. } | Event::Call { .. } => legacy,
+        Event::Return | Event::Extend { .. } | Event::PcrRead { .. } => !legacy,
+        Event::Jump { .. }
+        | Event::Read { .. }
+        | Event::Write { .. }
+        | Event::DeviceRead { .. }
+        | Event::DeviceWrite { .. } => true,
     }
 }

@@ -15,10 +15,8 @@ pub fn step(event: Event, payload: &[u8], s: State, memory: &mut [u8], buffer: &
 {
     let x = decide::looked(event, s);
     let c = decide::decided(event, x, payload, s, memory, buffer);
-    let answer = c.answer;
-    let next = change::changed(s, c);
     Stepped {
-        answer: answer,
-        state: next,
+        answer: c.answer,
+        state: change::changed(s, c),
     }
 }
