@@ -20,6 +20,7 @@ use events::{Answer, Event, Refusal};
 use geometry::Geometry;
 use release::{jump, unregister};
 use state::{Mode, State};
+use touch::pages::Access;
 use touch::{pcr_read, read, write};
 use wellformed::Sight;
 
@@ -73,12 +74,18 @@ fn dispatch(
         } => call::call::call(s, v, x.other, memory, mark, address, input, output),
         Event::Return => call::return_::return_(s, slot, memory, k),
         Event::Jump { address } => jump::jump(s, slot, v, memory, address),
-        Event::Read { address, length } => kept(read::read(s, v, memory, buffer, address, length)),
-        Event::Write { address } => kept(write::write(s, slot, v, memory, payload, address)),
-        Event::DeviceRead { address, length } => {
-            kept(read::device_read(s, v, memory, buffer, address, length))
+        Event::Read { address, length } => {
+            kept(read::read(s, slot, v, Access::Read, memory, buffer, address, length))
         }
-        Event::DeviceWrite { address } => kept(write::device_write(s, v, memory, payload, address)),
+        Event::Write { address } => {
+            kept(write::write(s, slot, v, Access::Write, memory, payload, address))
+        }
+        Event::DeviceRead { address, length } => {
+            kept(read::read(s, slot, v, Access::Device, memory, buffer, address, length))
+        }
+        Event::DeviceWrite { address } => {
+            kept(write::write(s, slot, v, Access::Device, memory, payload, address))
+        }
         Event::Extend {
             index,
             source,

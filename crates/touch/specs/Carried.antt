@@ -1,19 +1,20 @@
 -- A plan carried out by code.
-use Rattle.std.specs.Prelude.{ℕ, ◌≡◌, Bool, List, length, get_or}
-use Rattle.geometry.specs.Geometry.{page_of}
+use Rattle.std.specs.Prelude.{ℕ, ◌≡◌, true, List, length, get_or}
 use Rattle.sha_1.specs.declared.Digest.{Digest}
-use Rattle.state.specs.declared.Mode.{Mode}
 use Rattle.state.specs.declared.Mode.TheVariants.{Secure}
 use Rattle.state.specs.declared.Slot.{Slot}
 use Rattle.state.specs.declared.State.{State}
 use Rattle.state.specs.Zero.{no_slot}
-use Rattle.state.specs.Face.{Face, face_of, pcrs_of, state_of}
+use Rattle.state.specs.Face.{face_of, pcrs_of, state_of}
 use Rattle.events.specs.declared.Answer.{Answer}
 use Rattle.rules.specs.Plan.{Plan}
-use Rattle.rules.specs.Tests.{Access, may_reach}
-use Rattle.rules.specs.Decide.{read_rule, write_rule, pcr_rule}
+use Rattle.rules.specs.Tests as Tests
+use Rattle.rules.specs.Decide.{pcr_rule}
 use Rattle.rules.specs.Act.{fetched, stored, sealed}
+use Rattle.wellformed.specs.WellFormed.{state_right}
 use Rattle.touch.specs.declared.Stepped.{Stepped}
+use Rattle.touch.specs.declared.pages.Access.{Access}
+use Rattle.touch.specs.declared.pages.Access.TheVariants.{Read, Write, Device}
 
 -- ---- what the code has of the state: the owner of a page, slot k, the slot that runs
 
@@ -26,6 +27,18 @@ IsSlot s k x = x ≡ get_or s.slots k no_slot
 abbrev pub Runs : State → Slot → Type 0
 Runs s x = (k : ℕ) → s.mode ≡ Secure k → IsSlot s k x
 
+-- an access, as the rules have it
+abbrev pub access_of : Access → Tests.Access
+access_of Read = Tests.read
+access_of Write = Tests.write
+access_of Device = Tests.device
+
+-- what the page rule asks to be the state's: the page's owner, and for a write the slot that runs
+abbrev pub Asks : State → Slot → ℕ → Access → ℕ → Type 0
+Asks s x v Read p = (state_right s ≡ true) × Owned s p v
+Asks s x v Write p = (state_right s ≡ true) × (Owned s p v × Runs s x)
+Asks s x v Device p = Owned s p v
+
 -- ---- what it did
 
 -- it answered as planned, and filled the buffer as planned
@@ -35,18 +48,6 @@ Fills p pcrs m buffer r buffer' = (r ≡ p.answer) × (buffer' ≡ fetched p.fet
 -- it answered as planned, and left memory as planned
 abbrev pub Stores : Plan → List ℕ → List ℕ → Answer → List ℕ → Type 0
 Stores p payload m r m' = (r ≡ p.answer) × (m' ≡ stored p.store payload m)
-
--- the read rule of every mode and access that reach the page, or do not
-abbrev pub ReadBy : Bool → ℕ → ℕ → ℕ → List ℕ → List ℕ → Answer → List ℕ → Type 0
-ReadBy reached pages a n m buffer r buffer' =
-    (mode : Mode) (f : Face) (access : Access) (pcrs : List (List Digest)) → f.pages ≡ pages → may_reach mode f access (page_of a) ≡ reached
-    → Fills (read_rule mode f access (length buffer) a n) pcrs m buffer r buffer'
-
--- and so the write rule
-abbrev pub WrittenBy : Bool → ℕ → ℕ → List ℕ → List ℕ → Answer → List ℕ → Type 0
-WrittenBy reached pages a payload m r m' =
-    (mode : Mode) (f : Face) (access : Access) → f.pages ≡ pages → may_reach mode f access (page_of a) ≡ reached
-    → Stores (write_rule mode f access a (length payload)) payload m r m'
 
 -- a µPCR given, whatever stands in memory
 abbrev pub PcrGiven : State → ℕ → ℕ → List ℕ → Answer → List ℕ → Type 0

@@ -1,12 +1,11 @@
 // "Legacy reaches open pages. Secure reaches its own pages, and may not write code pages."
-ghost use Rattle.std.specs.Prelude.{◌≡◌, true, ◌&&◌, ◌+◌, ◌≤◌, ◌<◌, ltb, eqb};
+ghost use Rattle.std.specs.Prelude.{◌≡◌, ◌&&◌, ◌+◌, ◌≤◌, ◌<◌, ltb, eqb};
 ghost use Rattle.geometry.specs.Geometry.{slot_count};
 ghost use Rattle.state.specs.Face.{face_of};
 ghost use Rattle.fields.specs.Fields.{run_places};
 ghost use Rattle.fields.specs.Rules.{in_code};
-ghost use Rattle.wellformed.specs.WellFormed.{state_right};
-ghost use Rattle.rules.specs.Tests.{read, write, device, may_reach};
-ghost use Rattle.touch.specs.Carried.{Owned, Runs};
+ghost use Rattle.rules.specs.Tests.{may_reach};
+ghost use Rattle.touch.specs.Carried.{access_of, Asks};
 
 use state::{Mode, Slot, State};
 
@@ -32,36 +31,22 @@ pub fn in_code_of(slot: Slot, page: usize) -> bool
     keeps::in_code(&slot.card.fields, page)
 }
 
-// The rule, of a page whose owner is v. The slot is the one that runs.
-pub fn may_read(s: State, v: u8, page: usize) -> bool
-    requires { (state_right s ≡ true) × Owned s page v }
-    ensures { result ≡ may_reach s.mode (face_of s) read page }
-{
-    let mode = s.mode;
-    match mode {
-        Mode::Legacy => is_open(s.pages, v, page),
-        Mode::Secure(k) => is_own(v, k),
-    }
+// Who reaches for a page, and for what: a guest or a codeblock that reads or writes, or a device that does either.
+#[derive(Clone, Copy)]
+pub enum Access {
+    Read,
+    Write,
+    Device,
 }
 
-pub fn may_write(s: State, slot: Slot, v: u8, page: usize) -> bool
-    requires { (state_right s ≡ true) × (Owned s page v × Runs s slot) }
-    ensures { result ≡ may_reach s.mode (face_of s) write page }
+// The rule, of a page whose owner is v. The slot is the one that runs, which only a write asks for.
+pub fn may_reach(s: State, slot: Slot, v: u8, access: Access, page: usize) -> bool
+    requires { Asks s slot v access page }
+    ensures { result ≡ may_reach s.mode (face_of s) (access_of access) page }
 {
-    let mode = s.mode;
-    match mode {
-        Mode::Legacy => is_open(s.pages, v, page),
-        Mode::Secure(k) => {
-            let own = is_own(v, k);
-            let code = in_code_of(slot, page);
-            own & !code
-        }
+    match (access, s.mode) {
+        (Access::Read, Mode::Secure(k)) => is_own(v, k),
+        (Access::Write, Mode::Secure(k)) => is_own(v, k) && !in_code_of(slot, page),
+        (_, Mode::Legacy) | (Access::Device, _) => is_open(s.pages, v, page),
     }
-}
-
-pub fn device_may(s: State, v: u8, page: usize) -> bool
-    requires { Owned s page v }
-    ensures { result ≡ may_reach s.mode (face_of s) device page }
-{
-    is_open(s.pages, v, page)
 }

@@ -7,14 +7,10 @@ use Rattle.switch.specs.contracts.kept_as as switch_kept_as
 use Rattle.touch.specs.contracts.pages.is_open as touch_is_open
 use Rattle.touch.specs.contracts.pages.is_own as touch_is_own
 use Rattle.touch.specs.contracts.pages.in_code_of as touch_in_code_of
-use Rattle.touch.specs.contracts.pages.may_read as touch_may_read
-use Rattle.touch.specs.contracts.pages.may_write as touch_may_write
-use Rattle.touch.specs.contracts.pages.device_may as touch_device_may
+use Rattle.touch.specs.contracts.pages.may_reach as touch_may_reach
 use Rattle.touch.specs.contracts.pcr_read.pcr_read as touch_pcr_read
 use Rattle.touch.specs.contracts.read.read as touch_read
-use Rattle.touch.specs.contracts.read.device_read as touch_device_read
 use Rattle.touch.specs.contracts.write.write as touch_write
-use Rattle.touch.specs.contracts.write.device_write as touch_device_write
 use Rattle.change.specs.contracts.turned as change_turned
 use Rattle.change.specs.contracts.kept as change_kept
 use Rattle.change.specs.contracts.extending as change_extending
@@ -63,14 +59,10 @@ pub record Events : Type 0 where
   pub touch_is_open_one : OneOutcome touch_is_open.ended (λ κs a z e. told ((touch_is_open.clauses w₀.𝓛 w₀.𝓜.mem w₀.𝓡.run κs a).ensures tt z e) (r_last _))
   pub touch_is_own_one : OneOutcome touch_is_own.ended (λ κs a z e. told ((touch_is_own.clauses w₀.𝓛 w₀.𝓜.mem w₀.𝓡.run κs a).ensures tt z e) (r_last _))
   pub touch_in_code_of_one : OneOutcome touch_in_code_of.ended (λ κs a z e. told ((touch_in_code_of.clauses w₀.𝓛 w₀.𝓜.mem w₀.𝓡.run κs a).ensures tt z e) (r_last _))
-  pub touch_may_read_one : OneOutcome touch_may_read.ended (λ κs a z e. told ((touch_may_read.clauses w₀.𝓛 w₀.𝓜.mem w₀.𝓡.run κs a).ensures tt z e) (r_last _))
-  pub touch_may_write_one : OneOutcome touch_may_write.ended (λ κs a z e. told ((touch_may_write.clauses w₀.𝓛 w₀.𝓜.mem w₀.𝓡.run κs a).ensures tt z e) (r_last _))
-  pub touch_device_may_one : OneOutcome touch_device_may.ended (λ κs a z e. told ((touch_device_may.clauses w₀.𝓛 w₀.𝓜.mem w₀.𝓡.run κs a).ensures tt z e) (r_last _))
+  pub touch_may_reach_one : OneOutcome touch_may_reach.ended (λ κs a z e. told ((touch_may_reach.clauses w₀.𝓛 w₀.𝓜.mem w₀.𝓡.run κs a).ensures tt z e) (r_last _))
   pub touch_pcr_read_one : OneOutcome touch_pcr_read.ended (λ κs a z e. told ((touch_pcr_read.clauses w₀.𝓛 w₀.𝓜.mem w₀.𝓡.run κs a).ensures tt z e) (r_last _))
   pub touch_read_one : OneOutcome touch_read.ended (λ κs a z e. told ((touch_read.clauses w₀.𝓛 w₀.𝓜.mem w₀.𝓡.run κs a).ensures tt z e) (r_last _))
-  pub touch_device_read_one : OneOutcome touch_device_read.ended (λ κs a z e. told ((touch_device_read.clauses w₀.𝓛 w₀.𝓜.mem w₀.𝓡.run κs a).ensures tt z e) (r_last _))
   pub touch_write_one : OneOutcome touch_write.ended (λ κs a z e. told ((touch_write.clauses w₀.𝓛 w₀.𝓜.mem w₀.𝓡.run κs a).ensures tt z e) (r_last _))
-  pub touch_device_write_one : OneOutcome touch_device_write.ended (λ κs a z e. told ((touch_device_write.clauses w₀.𝓛 w₀.𝓜.mem w₀.𝓡.run κs a).ensures tt z e) (r_last _))
   pub change_turned_one : OneOutcome change_turned.ended (λ κs a z e. told ((change_turned.clauses w₀.𝓛 w₀.𝓜.mem w₀.𝓡.run κs a).ensures tt z e) (r_last _))
   pub change_kept_one : OneOutcome change_kept.ended (λ κs a z e. told ((change_kept.clauses w₀.𝓛 w₀.𝓜.mem w₀.𝓡.run κs a).ensures tt z e) (r_last _))
   pub change_extending_one : OneOutcome change_extending.ended (λ κs a z e. told ((change_extending.clauses w₀.𝓛 w₀.𝓜.mem w₀.𝓡.run κs a).ensures tt z e) (r_last _))

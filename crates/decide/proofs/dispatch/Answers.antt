@@ -16,7 +16,23 @@ jump-requires c =
 pub write-requires : goal.write-requires
 write-requires c =
     let a = c.args in
-    (c.requires.0, (at_page a.s a.event a.x c.requires.1.1 _ c.in-Write.is, slot_runs a.s a.x (well_state a.s _ c.requires.0) (at_slot a.s a.event a.x c.requires.1.1 _ c.in-Write.is)))
+    let h = well_state a.s _ c.requires.0 in
+    (c.requires.0, (h, (at_page a.s a.event a.x c.requires.1.1 _ c.in-Write.is, slot_runs a.s a.x h (at_slot a.s a.event a.x c.requires.1.1 _ c.in-Write.is))))
+
+pub read-requires : goal.read-requires
+read-requires c =
+    let a = c.args in
+    (c.requires.0, (well_state a.s _ c.requires.0, at_page a.s a.event a.x c.requires.1.1 _ c.in-Read.is))
+
+pub read-requires-in-DeviceRead : goal.read-requires-in-DeviceRead
+read-requires-in-DeviceRead c =
+    let a = c.args in
+    (c.requires.0, at_page a.s a.event a.x c.requires.1.1 _ c.in-DeviceRead.is)
+
+pub write-requires-in-DeviceWrite : goal.write-requires-in-DeviceWrite
+write-requires-in-DeviceWrite c =
+    let a = c.args in
+    (c.requires.0, at_page a.s a.event a.x c.requires.1.1 _ c.in-DeviceWrite.is)
 
 pub return_-requires : goal.return_-requires
 return_-requires c =
@@ -65,11 +81,11 @@ returns-in-Write c =
 
 pub returns-in-DeviceRead : goal.returns-in-DeviceRead
 returns-in-DeviceRead c =
-    let a = c.args in device_read_end a.s (state_shape a.s _ c.well_formed.1.1.0).slots_long a.payload.now a.buffer.now a.memory.now a.event c.requires.1.0 _ c.kept-in-DeviceRead.ensures _ _ c.in-DeviceRead.is c.device_read.ensures
+    let a = c.args in device_read_end a.s (state_shape a.s _ c.well_formed.1.1.0).slots_long a.payload.now a.buffer.now a.memory.now a.event c.requires.1.0 _ c.kept-in-DeviceRead.ensures _ _ c.in-DeviceRead.is c.read-in-DeviceRead.ensures
 
 pub returns-in-DeviceWrite : goal.returns-in-DeviceWrite
 returns-in-DeviceWrite c =
-    let a = c.args in device_write_end a.s (state_shape a.s _ c.well_formed.1.1.0).slots_long a.payload.now a.buffer.now a.memory.now a.event c.requires.1.0 _ c.kept-in-DeviceWrite.ensures _ c.in-DeviceWrite.is c.device_write.ensures
+    let a = c.args in device_write_end a.s (state_shape a.s _ c.well_formed.1.1.0).slots_long a.payload.now a.buffer.now a.memory.now a.event c.requires.1.0 _ c.kept-in-DeviceWrite.ensures _ c.in-DeviceWrite.is c.write-in-DeviceWrite.ensures
 
 pub returns-in-Extend : goal.returns-in-Extend
 returns-in-Extend c =
