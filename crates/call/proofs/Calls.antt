@@ -3,7 +3,7 @@ use Prim.Native.Nat.{ℕ, ◌+◌, ◌≤◌, ◌<◌}
 use native.Mathlib.Omega.{arith}
 use mathlib.Core.Path.{◌≡◌, refl, sym, ap, subst, ◌∙◌}
 use mathlib.Core.Bool.{Bool, true, false, ◌&&◌}
-use mathlib.Core.List.{List, []}
+use mathlib.Core.List.{List}
 use native.Mathlib.Decide.{ℕ_discrete}
 use lib.ListN.{length, get_or}
 use lib.Seq.{sets}
@@ -18,7 +18,6 @@ use Rattle.lists.proofs.Any.{any_find, any_hit}
 use Rattle.lists.proofs.First.{first_at}
 use Rattle.geometry.specs.Geometry.{slot_count, half_page, page_of, start_of, most_pages}
 use Rattle.fields.specs.declared.Entry.{Entry}
-use Rattle.fields.specs.declared.Fields.{Fields}
 use Rattle.fields.specs.Rules.{keeps_rules}
 use Rattle.fields.specs.Fields.{entry_places, entry_at}
 use Rattle.fields.specs.Pages.{is_param_at, param_of}

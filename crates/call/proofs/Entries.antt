@@ -4,15 +4,12 @@ use native.Mathlib.Omega.{arith}
 use mathlib.Core.Path.{◌≡◌, sym, ap, ◌∙◌}
 use mathlib.Core.Bool.{Bool, true, false, and-false, false≢true}
 use mathlib.Core.Logic.{⊎_elim}
-use mathlib.Core.List.{List, []}
-use lib.ListN.{get_or}
 use lib.Dec.{ltb}
 use borrow.Author.Tests.{lt-ltb, le-ltb, ltb-true}
 use Rattle.lists.specs.Below.{any_below, first_below}
 use Rattle.lists.proofs.Logic.{both, lt_or_ge}
 use Rattle.lists.proofs.Any.{any_find}
 use Rattle.lists.proofs.First.{first_le, first_at, first_before, first_hit, first_end}
-use Rattle.fields.specs.declared.Run.{Run}
 use Rattle.fields.specs.declared.Entry.{Entry}
 use Rattle.fields.specs.declared.Fields.{Fields}
 use Rattle.fields.specs.Fields.{entry_places, entry_at, run_at}

@@ -21,16 +21,14 @@ use touch::pages;
 fn in_range(pages: usize, address: usize, n: usize) -> bool
     ensures { result ≡ unlooked n (is_range pages address n) }
 {
-    let range = Geometry::is_range(pages, address, n);
-    (n == 0) | range
+    n == 0 || Geometry::is_range(pages, address, n)
 }
 
 // On an open page, where it is looked at; v is the page's owner.
 fn on_open(pages: usize, v: u8, address: usize, n: usize) -> bool
     ensures { result ≡ unlooked n (ltb (page_of address) pages && eqb v 0) }
 {
-    let found = pages::is_open(pages, v, address / Geometry::PAGE);
-    (n == 0) | found
+    n == 0 || pages::is_open(pages, v, address / Geometry::PAGE)
 }
 
 fn call_entry(
@@ -61,11 +59,10 @@ fn call_entry(
         return change::kept(Answer::Refused(Refusal::NotReached));
     }
     let k = found.k;
-    let slot = found.slot;
     memory::move_bytes(
         memory,
         switch::kept_as(n, input),
-        places::param_start(&slot.card.fields),
+        places::param_start(&found.slot.card.fields),
         n,
     );
     let mut running = s.running;

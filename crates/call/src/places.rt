@@ -46,7 +46,7 @@ pub fn slot_for(s: State, mark: u64, address: usize) -> Option<Sought>
     })
 }
 
-// The param page of runs that have one.
+// The param page of fields that have one.
 pub fn param_of(f: &Fields) -> usize
     requires { (f.now.r ≤ run_places) × (any_below f.now.r (is_param_at f.now) ≡ true) }
     ensures { result ≡ param_of f.now }
@@ -56,7 +56,7 @@ pub fn param_of(f: &Fields) -> usize
             return x.first as usize;
         }
     }
-    0
+    unreachable!()
 }
 
 // Where the param page begins.

@@ -21,8 +21,7 @@ fn source_right(s: State, source: Source, size: usize, address: usize, n: usize)
     match source {
         Source::Payload => size <= Geometry::PAGE,
         Source::Memory => {
-            let range = Geometry::is_range(s.pages, address, n);
-            (n == 0) | range
+            n == 0 || Geometry::is_range(s.pages, address, n)
         }
     }
 }
@@ -34,8 +33,7 @@ fn source_reached(s: State, v: u8, k: usize, source: Source, address: usize, n: 
     match source {
         Source::Payload => true,
         Source::Memory => {
-            let own = pages::is_own(v, k);
-            (n == 0) | own
+            n == 0 || pages::is_own(v, k)
         }
     }
 }
