@@ -3,7 +3,7 @@ use Prim.Native.Nat.{ℕ, ◌+◌, ◌-◌, ◌≤◌, ◌<◌}
 use native.Mathlib.Omega.{arith}
 use mathlib.Core.Path.{◌≡◌, refl, sym, ap, subst, ◌∙◌}
 use mathlib.Core.Bool.{true, false, ◌&&◌}
-use mathlib.Core.List.{List, []}
+use mathlib.Core.List.{List}
 use lib.ListN.{length, get_or}
 use lib.Dec.{ltb, eqb}
 use borrow.Author.Tests.{eqb-true, leb-true}
@@ -11,7 +11,6 @@ use Rattle.lists.specs.Bytes.{wipe}
 use Rattle.lists.proofs.Logic.{and_l, and_r, decided, pick_true, pick_false}
 use Rattle.lists.proofs.All.{all_at}
 use Rattle.geometry.specs.Geometry.{page_size, slot_count, start_of, page_of}
-use Rattle.fields.specs.declared.Fields.{Fields}
 use Rattle.fields.specs.Fields.{run_at, end_of}
 use Rattle.fields.specs.Rules.{in_code}
 use Rattle.fields.specs.Pages.{pages_of, pages_under, under_at}

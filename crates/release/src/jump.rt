@@ -45,8 +45,7 @@ pub fn jump(s: State, slot: Slot, v: u8, memory: &mut [u8], address: usize) -> C
     requires { (well_formed s (length memory.old) ≡ true) × (Owned s (page_of address) v × Runs s slot) }
     ensures { Acts (by_mode s.mode (jump_legacy (face_of s) address) (λ k. jump_secure (face_of s) k address)) s memory.old result memory.new }
 {
-    let mode = s.mode;
-    match mode {
+    match s.mode {
         Mode::Legacy => {
             let answer = jump_legacy(s, v, address);
             change::kept(answer)

@@ -17,6 +17,7 @@ use Rattle.touch.specs.declared.pages.Access.{Access}
 use Rattle.touch.specs.declared.pages.Access.TheVariants.{Read, Write, Device}
 
 -- ---- what the code has of the state: the owner of a page, slot k, the slot that runs
+-- Each event asks for those that it looks at (docs/PROMISES.md, "What inner functions ask"). No struct holds them as its invariant: it would ask all of every event.
 
 abbrev pub Owned : State → ℕ → ℕ → Type 0
 Owned s p v = v ≡ get_or s.owner p 0

@@ -13,7 +13,7 @@ use state::{Mode, Slot, State};
 pub fn is_open(pages: usize, v: u8, page: usize) -> bool
     ensures { result ≡ ltb page pages && eqb v 0 }
 {
-    (page < pages) & (v == 0)
+    page < pages && v == 0
 }
 
 pub fn is_own(v: u8, k: usize) -> bool

@@ -18,8 +18,6 @@ pub fn pcr_read(s: State, k: usize, slot: Slot, buffer: &mut [u8], index: usize)
     if buffer.len() < Geometry::DIGEST {
         return Answer::Refused(Refusal::BufferShort);
     }
-    let d = slot.pcrs[index];
-    let bytes = d.bytes;
-    memory::put_bytes(buffer, 0, &bytes);
+    memory::put_bytes(buffer, 0, &slot.pcrs[index].bytes);
     Answer::Filled(Geometry::DIGEST)
 }
