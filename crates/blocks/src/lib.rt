@@ -1,6 +1,6 @@
 #![tactic(auto)]
 
-ghost use Rattle.std.specs.Prelude.{◌≡◌, ◌+◌, ◌-◌, ◌*◌, ◌%◌, ◌≤◌, ◌<◌, length};
+ghost use Rattle.std.specs.Prelude.{◌≡◌, ◌+◌, ◌-◌, ◌*◌, ◌%◌, ◌≤◌, ◌<◌, length, take};
 ghost use Rattle.lists.specs.Numbers.{big_at};
 ghost use Rattle.blocks.specs.Blocks.{block_size, word_size, length_size, gap};
 ghost use Rattle.blocks.specs.Tail as Tails;
@@ -25,6 +25,16 @@ pub fn word(p: &[u8], at: usize) -> u32
 pub struct Tail {
     pub bytes: [u8; 2 * BLOCK],
     pub count: usize,
+}
+
+impl Tail {
+    // The bytes that count.
+    pub fn as_slice(&self) -> &[u8]
+        requires { self.now.count ≤ 2 * block_size }
+        ensures { result.now ≡ take self.now.count self.now.bytes }
+    {
+        &self.bytes[..self.count]
+    }
 }
 
 // How many bytes end a message with left bytes after its last whole block.

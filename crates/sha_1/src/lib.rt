@@ -89,7 +89,7 @@ pub fn finished(h: Hashing, last: &[u8]) -> Digest
 {
     let words = folded(h.words, last);
     let tail = blocks::ending(last, h.size.wrapping_add(last.len()));
-    digest_of(folded(words, &tail.bytes[..tail.count]))
+    digest_of(folded(words, tail.as_slice()))
 }
 
 pub fn hash(part: &[u8]) -> Digest

@@ -1,5 +1,5 @@
--- One outcome for each input: the machine, the hash, the manifest and the state. One exception, with what is one of it:
--- `chosen` hands back a part of what it was lent: its bytes, and not the reference's own name in the proof.
+-- One outcome for each input: the machine, the hash, the manifest and the state. Two exceptions, with what is one of them:
+-- `chosen` and `as_slice` hand back a part of what they were lent: its bytes, and not the reference's own name in the proof.
 use Rattle.geometry.specs.contracts.Geometry.numbers as geometry_numbers
 use Rattle.geometry.specs.contracts.Geometry.page_of as geometry_page_of
 use Rattle.geometry.specs.contracts.Geometry.start_of as geometry_start_of
@@ -12,6 +12,7 @@ use Rattle.memory.specs.contracts.put_bytes as memory_put_bytes
 use Rattle.memory.specs.contracts.give_bytes as memory_give_bytes
 use Rattle.memory.specs.contracts.chosen as memory_chosen
 use Rattle.blocks.specs.contracts.word as blocks_word
+use Rattle.blocks.specs.contracts.Tail.as_slice as blocks_as_slice
 use Rattle.blocks.specs.contracts.ending as blocks_ending
 use Rattle.rounds.specs.contracts.compress as rounds_compress
 use Rattle.sha_1.specs.contracts.start as sha1_start
@@ -64,6 +65,7 @@ pub record Parts : Type 0 where
   pub memory_give_bytes_one : OneOutcome memory_give_bytes.ended (λ κs a z e. told ((memory_give_bytes.clauses w₀.𝓛 w₀.𝓜.mem w₀.𝓡.run κs a).ensures tt z e) (r_last _))
   pub memory_chosen_one : OneView memory_chosen.ended (λ κs a z e. told ((memory_chosen.clauses w₀.𝓛 w₀.𝓜.mem w₀.𝓡.run κs a).ensures tt z e) (r_last _)) (λ κs a z w. z.now)
   pub blocks_word_one : OneOutcome blocks_word.ended (λ κs a z e. told ((blocks_word.clauses w₀.𝓛 w₀.𝓜.mem w₀.𝓡.run κs a).ensures tt z e) (r_last _))
+  pub blocks_as_slice_one : OneView blocks_as_slice.ended (λ κs a z e. told ((blocks_as_slice.clauses w₀.𝓛 w₀.𝓜.mem w₀.𝓡.run κs a).ensures tt z e) (r_last _)) (λ κs a z w. z.now)
   pub blocks_ending_one : OneOutcome blocks_ending.ended (λ κs a z e. told ((blocks_ending.clauses w₀.𝓛 w₀.𝓜.mem w₀.𝓡.run κs a).ensures tt z e) (r_last _))
   pub rounds_compress_one : OneOutcome rounds_compress.ended (λ κs a z e. told ((rounds_compress.clauses w₀.𝓛 w₀.𝓜.mem w₀.𝓡.run κs a).ensures tt z e) (r_last _))
   pub sha1_start_one : OneOutcome sha1_start.ended (λ κs a z e. told ((sha1_start.clauses w₀.𝓛 w₀.𝓜.mem w₀.𝓡.run κs a).ensures tt z e) (r_last _))

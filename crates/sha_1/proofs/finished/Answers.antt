@@ -1,9 +1,11 @@
-use Rattle.std.proofs.Common.{refl, ◌∙◌}
+use Rattle.std.proofs.Common.{refl, ap, ◌∙◌}
+use Rattle.blocks.specs.Blocks.{folded}
+use Rattle.rounds.specs.Rounds.{compress}
 use Rattle.sha_1.proofs.Ends.{tail_within, finished_is}
 use Rattle.sha_1.proofs.finished.Goals as goal
 
-pub shared_ref_as_front-folded : goal.shared_ref_as_front-folded
-shared_ref_as_front-folded c = tail_within _ _ _ c.ending-tail.ensures
+pub as_slice-requires : goal.as_slice-requires
+as_slice-requires c = tail_within _ _ _ c.ending-tail.ensures
 
 pub returns : goal.returns
 returns c =
@@ -12,4 +14,4 @@ returns c =
     c.folded-words.ensures
     refl
     c.ending-tail.ensures
-    c.folded.ensures
+    (c.folded.ensures ∙ ap (folded compress _) c.as_slice.ensures)

@@ -17,6 +17,7 @@ returns c = record {
   memory_give_bytes_one = λ κs a z z' w w' p q. (refl, λ i. (tt, (tt, (tt, (both p q i, tt)))));
   memory_chosen_one = λ κs a z z' w w' p q. both p q;
   blocks_word_one = λ κs a z z' w w'. result;
+  blocks_as_slice_one = λ κs a z z' w w' p q. both p q;
   blocks_ending_one = λ κs a z z' w w'. result;
   rounds_compress_one = λ κs a z z' w w'. result;
   sha1_start_one = λ κs a z z' w w'. result;
