@@ -3,11 +3,10 @@
 #![tactic(auto)]
 
 ghost use Rattle.std.specs.Prelude.{◌≤◌, ◌<◌, length};
-ghost use Rattle.lines.specs.Grammar.{payload_room};
 ghost use Rattle.gather.specs.Lines.{most_kept};
 
 use geometry::Geometry;
-use state::State;
+use std::io;
 use std::io::{Read, Write};
 
 // Of what is read or written at a time.
@@ -24,26 +23,13 @@ struct Part {
     more: bool,
 }
 
-// How many bytes were read: none where the input has ended, or where reading fails.
-fn some_read<R: Read>(input: &mut R, buf: &mut [u8]) -> usize
-    ensures { result ≤ length buf.new }
-{
-    match input.read(buf) {
-        Ok(n) => n,
-        Err(_) => 0,
-    }
-}
-
-// If more is wanted, the begin of a line that has not ended goes to the block's front, and what is read next behind it.
-fn refill<R: Read>(input: &mut R, wanted: bool, block: &mut [u8], part: Part) -> Part
+// The begin of a line that has not ended goes to the block's front, and what is read next behind it. A read that fails is the input's end.
+fn refill<R: Read>(input: &mut R, block: &mut [u8], part: Part) -> Part
     requires { (part.at ≤ part.end) × (part.end ≤ length block.old) × (most_kept < length block.old) }
     ensures { (result.at ≤ result.end) × (result.end ≤ length block.old) }
 {
-    if !wanted {
-        return part;
-    }
     let kept = gather::carry(block, part.at, part.end);
-    let n = some_read(input, &mut block[kept..]);
+    let n = input.read(&mut block[kept..]).unwrap_or(0);
     let text = gather::received(block, kept, n);
     Part {
         at: 0,
@@ -52,61 +38,47 @@ fn refill<R: Read>(input: &mut R, wanted: bool, block: &mut [u8], part: Part) ->
     }
 }
 
-// Lines are heard and answers written to the end of the input, or to the first read or write that fails.
-fn run<R: Read, W: Write>(
-    input: &mut R,
-    output: &mut W,
-    begun: State,
-    block: &mut [u8],
-    payload: &mut [u8],
-    memory: &mut [u8],
-    buffer: &mut [u8],
-    out: &mut [u8],
-)
-    requires { (most_kept < length block.old) × (payload_room ≤ length payload.old) }
-{
-    let mut state = begun;
-    let mut part = Part {
-        at: 0,
-        end: 0,
-        more: true,
-    };
-    let mut going = true;
-    // A proved loop has to end: no input has so many blocks.
-    for _ in 0..u64::MAX {
-        if !going {
-            break;
-        }
-        let at = part.at;
-        let end = part.end;
-        let heard = desk::serve(&block[at..end], state, payload, memory, buffer, out);
-        state = heard.state;
-        part.at = at + heard.at;
-        let used = heard.used;
-        going = output.write_all(&out[..used]).is_ok() & ((0 < used) | part.more);
-        part = refill(input, (used == 0) & part.more, block, part);
-    }
-}
-
 // The memory of the eight pages that it runs on.
 const MEMORY: usize = 8 * Geometry::PAGE;
 
-fn main(rt: HostRuntime) {
-    let begun = start::start(8, 1);
+// Lines are heard and answers written to the end of the input, or to the first write that fails.
+fn run<R: Read, W: Write>(input: &mut R, output: &mut W) -> io::Result<()> {
+    let mut state = start::start(8, 1).state;
     let mut block = [0u8; BLOCK];
     let mut payload = [0u8; lines::PAYLOAD_ROOM];
     let mut memory = [0u8; MEMORY];
     let mut buffer = [0u8; ANSWER];
     let mut out = [0u8; BLOCK];
-    let state = begun.state;
-    run(
-        &mut rt.stdin(),
-        &mut rt.stdout(),
-        state,
-        &mut block,
-        &mut payload,
-        &mut memory,
-        &mut buffer,
-        &mut out,
-    );
+    let mut part = Part {
+        at: 0,
+        end: 0,
+        more: true,
+    };
+    // A proved loop has to end: no input has so many blocks.
+    for _ in 0..u64::MAX {
+        let text = &block[part.at..part.end];
+        let heard = desk::serve(
+            text,
+            state,
+            &mut payload,
+            &mut memory,
+            &mut buffer,
+            &mut out,
+        );
+        state = heard.state;
+        part.at += heard.at;
+        output.write_all(&out[..heard.used])?;
+        if heard.used == 0 {
+            if !part.more {
+                break;
+            }
+            part = refill(input, &mut block, part);
+        }
+    }
+    Ok(())
+}
+
+// A write that fails ends the program, as the end of the input does.
+fn main(rt: HostRuntime) {
+    let _ = run(&mut rt.stdin(), &mut rt.stdout());
 }
