@@ -1,10 +1,11 @@
 -- What the test handed out is what the event looks at.
 use Prim.Native.Nat.{ℕ, ◌%◌, ◌<◌}
 use native.Mathlib.Omega.{arith}
-use mathlib.Core.Path.{◌≡◌, sym, ap, ◌∙◌}
+use mathlib.Core.Path.{◌≡◌, ap, ◌∙◌}
 use mathlib.Core.Bool.{true, false}
 use lib.ListN.{get_or}
 use borrow.Author.Tests.{eq-eqb, ne_eqb}
+use Rattle.std.specs.Prelude.{Some, None}
 use Rattle.geometry.specs.Geometry.{slot_count, start_of}
 use Rattle.state.specs.declared.Mode.{Mode}
 use Rattle.state.specs.declared.State.{State}
@@ -12,7 +13,7 @@ use Rattle.state.specs.Zero.{no_slot}
 use Rattle.events.specs.declared.Event.{Event}
 use Rattle.wellformed.specs.declared.Sight.{Sight}
 use Rattle.wellformed.specs.WellFormed.{state_right, well_formed}
-use Rattle.wellformed.proofs.Sights.{seen_right, seen_all}
+use Rattle.wellformed.proofs.Sights.{seen_wrong, seen_so}
 use Rattle.touch.specs.Carried.{Owned, IsSlot, Runs}
 use Rattle.touch.proofs.Ready.{mode_below}
 use Rattle.decide.specs.Allowed.{slot_in}
@@ -53,14 +54,18 @@ module _ (s : State) (n : ℕ) where
   unfolding well_formed
   well h e = rw (h, eq-eqb n (start_of s.pages) e)
 
-module _ (s : State) (e : Event) (x : Sight) (h : x ≡ looked e s) where
+module _ (s : State) (e : Event) where
   abbrev l : Look
   l = looking e s.mode
 
-  pub right_as : x.right ≡ state_right s
+  pub nothing : None ≡ looked e s → state_right s ≡ false
   unfolding looked
-  right_as = ap (λ (y : Sight). y.right) h ∙ seen_right s l.slot l.page l.other
+  nothing h = seen_wrong s l.slot l.page l.other h
 
-  pub sees : state_right s ≡ true → Sees s e x
+  pub something : (x : Sight) → Some x ≡ looked e s → state_right s ≡ true
   unfolding looked
-  sees r = h ∙ sym (seen_all s l.slot l.page l.other r)
+  something x h = (seen_so s l.slot l.page l.other x h).0
+
+  pub sees : (x : Sight) → Some x ≡ looked e s → Sees s e x
+  unfolding looked
+  sees x h = (seen_so s l.slot l.page l.other x h).1

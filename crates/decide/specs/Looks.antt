@@ -1,5 +1,5 @@
 -- Where each event looks.
-use Rattle.std.specs.Prelude.{ℕ, ◌≡◌}
+use Rattle.std.specs.Prelude.{ℕ, ◌≡◌, Option}
 use Rattle.geometry.specs.Geometry.{page_of}
 use Rattle.state.specs.declared.Mode.{Mode}
 use Rattle.state.specs.declared.State.{State}
@@ -36,10 +36,10 @@ abbrev pub seen_at : State → Look → Sight
 seen_at s l = all_seen s l.slot l.page l.other
 
 -- and of any
-abbrev pub seen_in : State → Look → Sight
+abbrev pub seen_in : State → Look → Option Sight
 seen_in s l = seen_of s l.slot l.page l.other
 
-unfoldable pub looked : Event → State → Sight
+unfoldable pub looked : Event → State → Option Sight
 looked e s = seen_in s (looking e s.mode)
 
 abbrev pub Sees : State → Event → Sight → Type 0

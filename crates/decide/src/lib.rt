@@ -40,8 +40,8 @@ pub fn looking(event: Event, mode: Mode) -> Look
     looks::looks(event, modes::slot_in(mode))
 }
 
-// Whether the state is well formed, and what the event looks at in it.
-pub fn looked(event: Event, s: State) -> Sight
+// What the event looks at in the state, if that is well formed.
+pub fn looked(event: Event, s: State) -> Option<Sight>
     ensures { result ≡ Looks.looked event s }
 {
     let look = looking(event, s.mode);
@@ -100,18 +100,18 @@ fn dispatch(
 // order shown."
 pub fn decided(
     event: Event,
-    x: Sight,
+    seen: Option<Sight>,
     payload: &[u8],
     s: State,
     memory: &mut [u8],
     buffer: &mut [u8],
 ) -> Change
-    requires { x ≡ Looks.looked event s }
+    requires { seen ≡ Looks.looked event s }
     ensures { Allowed.Comes s result memory.new buffer.new (rules.step s memory.old event payload.now buffer.old) }
 {
-    if !x.right {
+    let Some(x) = seen else {
         return kept(Answer::Refused(Refusal::NotWellFormed));
-    }
+    };
     if memory.len() != Geometry::start_of(s.pages) {
         return kept(Answer::Refused(Refusal::NotWellFormed));
     }

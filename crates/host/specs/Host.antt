@@ -51,7 +51,7 @@ look_for (Err none) m = at 0 0
 abbrev pub host_looks : Request → ℕ → Look
 host_looks q n = look_for (asked_of q) (mode_of n)
 
-unfoldable pub host_looked : Monitor → Request → Sight
+unfoldable pub host_looked : Monitor → Request → Option Sight
 host_looked m q = seen_in (opened_of m) (host_looks q m.mode)
 
 -- the reply to a change, and its turn

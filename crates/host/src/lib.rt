@@ -2,20 +2,18 @@
 // C owes (host/monitor.h).
 #![tactic(auto)]
 
-ghost use Rattle.std.specs.Prelude.{◌≡◌, get_or};
+ghost use Rattle.std.specs.Prelude.{◌≡◌};
 ghost use Rattle.wellformed.specs.Seen.{seen_of};
-ghost use Rattle.wellformed.specs.Steps.{whole_of, sight_of};
-ghost use Rattle.twin.specs.Twin.{mode_of, opened_of};
+ghost use Rattle.twin.specs.Twin.{opened_of};
 ghost use Rattle.host.specs.Host.{Comes, heard_of, none_heard, hosted, host_step, host_looks, host_looked};
 ghost use Rattle.host.specs.Promise.{RefusalsKeepAll};
 
 use change::{Change, Turn};
 use decide::Look;
 use events::Event;
-use geometry::Geometry;
-use state::{Running, Slot, State};
+use state::State;
 use twin::{Monitor, NoEvent, Reply, Request};
-use wellformed::{Sight, Test};
+use wellformed::{Parts, Sight};
 
 // What an event comes to: its reply, and what becomes of the state.
 #[derive(Clone, Copy)]
@@ -38,45 +36,19 @@ fn looking(q: Request, mode: usize) -> Look
     decide::looking(e, twin::mode_of(mode))
 }
 
-// The end of the test, of C's mode.
-fn handed(
-    w: Test,
-    t: &[u8; Geometry::MOST_PAGES],
-    owner: &[u8; Geometry::MOST_PAGES],
-    pages: usize,
-    mode: usize,
-    running: Running,
-    y: Slot,
-    slot: Slot,
-    page: usize,
-    other: usize,
-) -> Sight
-    ensures { result ≡ sight_of (whole_of w t.now owner.now pages (mode_of mode) running y.card) slot (get_or owner.now page 0) (get_or owner.now other 0) }
+// The test of the state where it stands, and what the event looks at in it.
+fn sees(m: &Monitor, n: usize, page: usize, other: usize) -> Option<Sight>
+    ensures { result ≡ seen_of (opened_of m.now) n page other }
 {
-    let card = y.card;
-    let to = twin::mode_of(mode);
-    wellformed::sighted(w, t, owner, pages, to, running, card, slot, page, other)
-}
-
-// The test of the state where it stands, as `wellformed::seen` has it of one by value. The state comes back as it was.
-fn sees(m: &mut Monitor, n: usize, page: usize, other: usize) -> Sight
-    ensures { (result ≡ seen_of (opened_of m.old) n page other) × (m.new ≡ m.old) }
-{
-    let mut t = [0u8; Geometry::MOST_PAGES];
-    let mut w = wellformed::begun(m.pages, m.kept, &mut t);
-    let mut k: usize = 0;
-    while k < Geometry::SLOTS {
-        let x = m.slots[k];
-        w = wellformed::tried(w, x, k, &m.owner, &mut t);
-        k += 1;
-    }
-    let j = m.running.slot % Geometry::SLOTS;
-    let y = m.slots[j];
-    let i = n % Geometry::SLOTS;
-    let slot = m.slots[i];
-    handed(
-        w, &t, &m.owner, m.pages, m.mode, m.running, y, slot, page, other,
-    )
+    let parts = Parts {
+        pages: m.pages,
+        kept: m.kept,
+        owner: &m.owner,
+        slots: &m.slots,
+        mode: twin::mode_of(m.mode),
+        running: m.running,
+    };
+    wellformed::seen_in(&parts, n, page, other)
 }
 
 // A change, told to C.
@@ -103,7 +75,7 @@ fn unheard() -> Heard
 fn hear(
     m: Monitor,
     q: Request,
-    x: Sight,
+    x: Option<Sight>,
     payload: &[u8],
     memory: &mut [u8],
     buffer: &mut [u8],

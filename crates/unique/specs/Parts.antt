@@ -39,10 +39,7 @@ use Rattle.state.specs.contracts.Slot.cleared as state_cleared
 use Rattle.state.specs.contracts.Slot.extended as state_extended
 use Rattle.state.specs.contracts.Slot.entry_found as state_entry_found
 use Rattle.wellformed.specs.contracts.sizes_right as wellformed_sizes_right
-use Rattle.wellformed.specs.contracts.unseen as wellformed_unseen
-use Rattle.wellformed.specs.contracts.begun as wellformed_begun
-use Rattle.wellformed.specs.contracts.tried as wellformed_tried
-use Rattle.wellformed.specs.contracts.sighted as wellformed_sighted
+use Rattle.wellformed.specs.contracts.seen_in as wellformed_seen_in
 use Rattle.wellformed.specs.contracts.seen as wellformed_seen
 use Rattle.wellformed.specs.contracts.state_right as wellformed_state_right
 use Rattle.wellformed.specs.contracts.well_formed as wellformed_well_formed
@@ -92,10 +89,7 @@ pub record Parts : Type 0 where
   pub state_extended_one : OneOutcome state_extended.ended (λ κs a z e. told ((state_extended.clauses w₀.𝓛 w₀.𝓜.mem w₀.𝓡.run κs a).ensures tt z e) (r_last _))
   pub state_entry_found_one : OneOutcome state_entry_found.ended (λ κs a z e. told ((state_entry_found.clauses w₀.𝓛 w₀.𝓜.mem w₀.𝓡.run κs a).ensures tt z e) (r_last _))
   pub wellformed_sizes_right_one : OneOutcome wellformed_sizes_right.ended (λ κs a z e. told ((wellformed_sizes_right.clauses w₀.𝓛 w₀.𝓜.mem w₀.𝓡.run κs a).ensures tt z e) (r_last _))
-  pub wellformed_unseen_one : OneOutcome wellformed_unseen.ended (λ κs a z e. told ((wellformed_unseen.clauses w₀.𝓛 w₀.𝓜.mem w₀.𝓡.run κs a).ensures tt z e) (r_last _))
-  pub wellformed_begun_one : OneOutcome wellformed_begun.ended (λ κs a z e. told ((wellformed_begun.clauses w₀.𝓛 w₀.𝓜.mem w₀.𝓡.run κs a).ensures tt z e) (r_last _))
-  pub wellformed_tried_one : OneOutcome wellformed_tried.ended (λ κs a z e. told ((wellformed_tried.clauses w₀.𝓛 w₀.𝓜.mem w₀.𝓡.run κs a).ensures tt z e) (r_last _))
-  pub wellformed_sighted_one : OneOutcome wellformed_sighted.ended (λ κs a z e. told ((wellformed_sighted.clauses w₀.𝓛 w₀.𝓜.mem w₀.𝓡.run κs a).ensures tt z e) (r_last _))
+  pub wellformed_seen_in_one : OneOutcome wellformed_seen_in.ended (λ κs a z e. told ((wellformed_seen_in.clauses w₀.𝓛 w₀.𝓜.mem w₀.𝓡.run κs a).ensures tt z e) (r_last _))
   pub wellformed_seen_one : OneOutcome wellformed_seen.ended (λ κs a z e. told ((wellformed_seen.clauses w₀.𝓛 w₀.𝓜.mem w₀.𝓡.run κs a).ensures tt z e) (r_last _))
   pub wellformed_state_right_one : OneOutcome wellformed_state_right.ended (λ κs a z e. told ((wellformed_state_right.clauses w₀.𝓛 w₀.𝓜.mem w₀.𝓡.run κs a).ensures tt z e) (r_last _))
   pub wellformed_well_formed_one : OneOutcome wellformed_well_formed.ended (λ κs a z e. told ((wellformed_well_formed.clauses w₀.𝓛 w₀.𝓜.mem w₀.𝓡.run κs a).ensures tt z e) (r_last _))

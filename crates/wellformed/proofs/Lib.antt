@@ -7,4 +7,3 @@ pub mod Pages
 pub mod Slots
 pub mod Whole
 pub mod Sights
-pub mod Going

@@ -1,18 +1,19 @@
 // Whether a state is well formed (document 01, "Machine and numbers"). Every event asks it, so it is written to be fast: one loop reads each slot once
-// and paints what it says into a table, and the table is compared with the owner table. The state stays in one function, since a callee would copy it.
+// and paints what it says into a table, and the table is compared with the owner table. The state is lent part by part, so that no callee copies it.
 #![tactic(auto)]
 
 mod held; // what a slot holds
 mod running; // the mode and the running record
 
-ghost use Rattle.std.specs.Prelude.{◌≡◌, get_or};
+ghost use Rattle.std.specs.Prelude.{◌≡◌, ◌<◌, ◌≤◌, get_or};
+ghost use Rattle.geometry.specs.Geometry.{most_pages, slot_count};
+ghost use Rattle.fields.specs.Fields.{entry_places};
 ghost use Rattle.wellformed.specs.WellFormed.{sizes_right, state_right, well_formed};
-ghost use Rattle.wellformed.specs.Seen.{nothing_seen, seen_of};
-ghost use Rattle.wellformed.specs.Steps.{begun_of, begun_table, tried_of, tried_table, whole_of, sight_of};
+ghost use Rattle.wellformed.specs.Seen.{state_in, all_seen, seen_of};
+ghost use Rattle.wellformed.specs.Steps.{begun_of, begun_table, tried_of, tried_table, running_card, compared_of};
 
-use fields::Fields;
 use geometry::Geometry;
-use state::{Card, Mode, Running, Slot, State};
+use state::{Mode, Running, Slot, State};
 
 // The owner of the monitor's pages.
 pub const MONITORS: u8 = 255;
@@ -23,157 +24,124 @@ pub fn sizes_right(p: usize, m: usize) -> bool
     ((Geometry::LEAST_PAGES <= p) & (p <= Geometry::MOST_PAGES)) & ((1 <= m) & (m < p))
 }
 
-// ---- the whole
-// What an event looks at, handed out by the test so that the state is copied once: a slot, and the owners of two pages.
+// ---- what the test goes over, and what it hands out
+// A state's parts where they stand, so that no state is copied to be tested.
+#[derive(Clone, Copy)]
+pub struct Parts<'a> {
+    pub pages: usize,
+    pub kept: usize,
+    pub owner: &'a [u8; Geometry::MOST_PAGES],
+    pub slots: &'a [Slot; Geometry::SLOTS],
+    pub mode: Mode,
+    pub running: Running,
+}
+
+// What an event looks at, handed out by the test: a slot, and the owners of two pages.
 #[derive(Clone, Copy)]
 pub struct Sight {
-    pub right: bool,
     pub slot: Slot,
     pub page: u8,
     pub other: u8,
 }
 
-// Of a state that is not well formed nothing is told.
-pub fn unseen() -> Sight
-    ensures { result ≡ nothing_seen }
-{
-    let zero = Slot::zero();
-    Sight {
-        right: false,
-        slot: zero,
-        page: 0,
-        other: 0,
-    }
-}
-
-fn owner_of(owner: &[u8], page: usize) -> u8
+fn owner_of(owner: &[u8; Geometry::MOST_PAGES], page: usize) -> u8
     ensures { result ≡ get_or owner.now page 0 }
 {
-    if page < owner.len() {
-        return owner[page];
+    owner.get(page).copied().unwrap_or(0)
+}
+
+// Slot n (counted round from 8 on), and the owners of the two pages.
+fn handed(state: &Parts, n: usize, page: usize, other: usize) -> Sight
+    ensures { result ≡ all_seen (state_in state.now) n page other }
+{
+    Sight {
+        slot: state.slots[n % Geometry::SLOTS],
+        page: owner_of(state.owner, page),
+        other: owner_of(state.owner, other),
     }
-    0
 }
 
-// ---- the test, in three steps, so that a state that is lent can be tested too
-// What the test has found so far, and the first of the monitor's pages.
-#[derive(Clone, Copy)]
-pub struct Test {
-    pub right: bool,
-    pub top: usize,
-}
-
-// The sizes; the monitor's pages are painted.
-pub fn begun(pages: usize, kept: usize, t: &mut [u8; Geometry::MOST_PAGES]) -> Test
+// ---- the test, in three steps
+// The sizes; the monitor's pages are painted. What it gives is the first of them.
+fn begun(pages: usize, kept: usize, t: &mut [u8; Geometry::MOST_PAGES]) -> Option<usize>
     ensures { (result ≡ begun_of pages kept) × (t.new ≡ begun_table pages kept t.old) }
 {
     if !sizes_right(pages, kept) {
-        return Test {
-            right: false,
-            top: 0,
-        };
+        return None;
     }
     let top = pages - kept;
     painting::paint(t, top, kept, MONITORS);
-    Test { right: true, top }
+    Some(top)
 }
 
-// Slot k, which holds x: its rules, and whether its pages are its own; they are painted. What is out of reach is not right.
-pub fn tried(
-    w: Test,
-    x: Slot,
+// Slot k: its rules, and whether its pages are its own; they are painted.
+fn tried(
+    x: &Slot,
     k: usize,
+    top: usize,
     owner: &[u8; Geometry::MOST_PAGES],
     t: &mut [u8; Geometry::MOST_PAGES],
-) -> Test
-    ensures { (result ≡ tried_of w x k owner.now) × (t.new ≡ tried_table w x k t.old) }
+) -> bool
+    requires { (k < slot_count) × (top ≤ most_pages) }
+    ensures { (result ≡ tried_of x.now k top owner.now) × (t.new ≡ tried_table x.now k top t.old) }
 {
-    if !(w.right & ((k < Geometry::SLOTS) & (w.top <= Geometry::MOST_PAGES))) {
-        return Test {
-            right: false,
-            top: w.top,
-        };
-    }
-    if !held::slot_right(x, w.top) {
-        return Test {
-            right: false,
-            top: w.top,
-        };
+    if !held::slot_right(*x, top) {
+        return false;
     }
     if !x.card.registered {
-        return w;
+        return true;
     }
     let v = (k + 1) as u8;
-    let own = painting::runs_owned(owner, &x.card.fields, v);
     painting::paint_runs(t, &x.card.fields, v);
-    Test {
-        right: own,
-        top: w.top,
-    }
+    painting::runs_owned(owner, &x.card.fields, v)
 }
 
-// The table, the mode and the running record; what is handed out. What is out of bounds is not right.
-pub fn sighted(
-    w: Test,
-    t: &[u8; Geometry::MOST_PAGES],
-    owner: &[u8; Geometry::MOST_PAGES],
-    pages: usize,
-    mode: Mode,
-    running: Running,
-    card: Card,
-    slot: Slot,
-    page: usize,
-    other: usize,
-) -> Sight
-    ensures { result ≡ sight_of (whole_of w t.now owner.now pages mode running card) slot (get_or owner.now page 0) (get_or owner.now other 0) }
+// The table, the mode and the running record.
+fn compared(state: &Parts, t: &[u8; Geometry::MOST_PAGES]) -> bool
+    requires { (state.now.pages ≤ most_pages) × ((running_card (state_in state.now)).fields.e ≤ entry_places) }
+    ensures { result ≡ compared_of (state_in state.now) t.now }
 {
-    if !(w.right & ((pages <= Geometry::MOST_PAGES) & (card.fields.e <= Fields::ENTRIES))) {
-        return unseen();
-    }
-    let same = painting::same(t, owner);
-    let right = running::mode_right(mode, running, card, owner, pages);
-    if !(same & right) {
-        return unseen();
-    }
-    let first = owner_of(owner, page);
-    let second = owner_of(owner, other);
-    Sight {
-        right: true,
-        slot: slot,
-        page: first,
-        other: second,
-    }
+    let card = state.slots[state.running.slot % Geometry::SLOTS].card;
+    let same = painting::same(t, state.owner);
+    let right = running::mode_right(state.mode, state.running, card, state.owner, state.pages);
+    same & right
 }
 
-// The test, and slot n (counted round from 8 on).
-pub fn seen(s: State, n: usize, page: usize, other: usize) -> Sight
-    ensures { result ≡ seen_of s n page other }
+// What is seen of a state that is well formed; of another nothing is told.
+pub fn seen_in(state: &Parts, n: usize, page: usize, other: usize) -> Option<Sight>
+    ensures { result ≡ seen_of (state_in state.now) n page other }
 {
     let mut t = [0u8; Geometry::MOST_PAGES];
-    let mut w = begun(s.pages, s.kept, &mut t);
-    let mut k: usize = 0;
-    while k < Geometry::SLOTS {
-        let x = s.slots[k];
-        w = tried(w, x, k, &s.owner, &mut t);
-        k += 1;
+    let top = begun(state.pages, state.kept, &mut t)?;
+    for (k, x) in state.slots.iter().enumerate() {
+        if !tried(x, k, top, state.owner, &mut t) {
+            return None;
+        }
     }
-    let running = s.running;
-    let j = running.slot % Geometry::SLOTS;
-    let y = s.slots[j];
-    let card = y.card;
-    let mode = s.mode;
-    let i = n % Geometry::SLOTS;
-    let slot = s.slots[i];
-    sighted(
-        w, &t, &s.owner, s.pages, mode, running, card, slot, page, other,
-    )
+    if compared(state, &t) {
+        return Some(handed(state, n, page, other));
+    }
+    None
+}
+
+pub fn seen(s: State, n: usize, page: usize, other: usize) -> Option<Sight>
+    ensures { result ≡ seen_of s n page other }
+{
+    let parts = Parts {
+        pages: s.pages,
+        kept: s.kept,
+        owner: &s.owner,
+        slots: &s.slots,
+        mode: s.mode,
+        running: s.running,
+    };
+    seen_in(&parts, n, page, other)
 }
 
 pub fn state_right(s: State) -> bool
     ensures { result ≡ state_right s }
 {
-    let x = seen(s, 0, 0, 0);
-    x.right
+    seen(s, 0, 0, 0).is_some()
 }
 
 pub fn well_formed(s: State, length: usize) -> bool

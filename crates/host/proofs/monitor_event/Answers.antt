@@ -7,4 +7,4 @@ use Rattle.host.proofs.monitor_event.Goals as goal
 -- what was seen, at the looks that the request has
 pub hear-h-requires : goal.hear-h-requires
 unfolding host_looked
-hear-h-requires c = rw c.sees-x.ensures.1 (c.sees-x.ensures.0 ∙ ap (seen_in (opened_of c.args.m.now)) c.looking-l.ensures)
+hear-h-requires c = c.sees-x.ensures ∙ ap (seen_in (opened_of c.args.m.now)) c.looking-l.ensures
