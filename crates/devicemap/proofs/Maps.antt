@@ -1,15 +1,15 @@
--- The map's bits, and the turns of the loop that fills the buffer.
+-- The map's bits and its length, and the buffer that is filled.
 use Prim.Native.Nat.{ℕ, ◌+◌, ◌*◌, ◌/◌, ◌%◌, ◌≤◌, ◌<◌}
 use native.Mathlib.Nat.{zero-add, div-add-mod}
 use native.Mathlib.Omega.{arith}
-use mathlib.Core.Path.{◌≡◌, refl, ap, subst, ◌∙◌}
+use mathlib.Core.Path.{◌≡◌, refl, sym, ap, ◌∙◌}
 use mathlib.Core.Bool.{Bool, true, false, ◌&&◌}
 use lib.Dec.{ltb, eqb}
 use mathlib.Core.List.{List, [], ◌∷◌, ◌++◌}
-use lib.ListN.{get_or, set}
-use lib.Seq.{sets}
+use lib.ListN.{length, get_or, take, drop}
+use lib.Seq.{sets, sets-eq, length-take-le}
+use Rattle.std.specs.Int.{div_ceil}
 use Rattle.lists.specs.Below.{pick, table}
-use Rattle.lists.proofs.Parts.{sets_turn}
 use Rattle.lists.proofs.Tables.{table_at, table_long, table_more, table_same}
 use Rattle.state.specs.declared.State.{State}
 use Rattle.state.specs.Face.{face_of, is_open}
@@ -37,12 +37,13 @@ pub map_same : (s : State) → table (byte_in s.owner s.pages) (map_length s.pag
 unfolding map_of map_byte byte_in
 map_same s = table_same (byte_in s.owner s.pages) (map_byte (face_of s)) (map_length s.pages) (λ i l. refl)
 
-module _ (v : ℕ → ℕ) (m : List ℕ) where
-  pub fill_none : m ≡ sets m 0 (table v 0)
-  unfolding table
-  fill_none = refl
+-- "P/8 bytes, rounded up", as the library counts them
+pub length_up : (p : ℕ) → div_ceil p 8 ≡ map_length p
+length_up p = omega arith
 
-  pub fill_more : (d : List ℕ) (i x : ℕ) → d ≡ sets m 0 (table v i) → x ≡ v i → set d i x ≡ sets m 0 (table v (i + 1))
-  fill_more d i x h e =
-      rw (table_more v i, e)
-      (subst (λ (z : ℕ). set d z (v i) ≡ sets m 0 (table v i ++ (v i ∷ []))) (zero-add i) (sets_turn m 0 i (table v i) (v i) h (table_long v i)))
+-- the first bytes of a buffer, filled
+pub filled : (m : List ℕ) (v : ℕ → ℕ) (n : ℕ) → n ≤ length m → (w : List ℕ) → w ≡ table v (length (take n m)) → w ++ drop n m ≡ sets m 0 (table v n)
+filled m v n l w e =
+    let q : n ≡ 0 + length (table v n) = omega (arith, table_long v n) in
+    rw (e, length-take-le n m l)
+    (ap (λ (k : ℕ). table v n ++ drop k m) q ∙ sym (sets-eq (table v n) m 0 (omega (arith, table_long v n))))

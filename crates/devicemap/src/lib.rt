@@ -18,17 +18,12 @@ pub enum Mapped {
     Refused(u8),
 }
 
+// A page's bit. From P on no page is open.
 fn shut(owner: &[u8; Geometry::MOST_PAGES], pages: usize, p: usize) -> u8
     requires { pages ≤ most_pages }
     ensures { (result ≡ shut_in owner.now pages p) × (result ≤ 1) }
 {
-    if pages <= p {
-        return 1;
-    }
-    if owner[p] == 0 {
-        return 0;
-    }
-    1
+    u8::from(pages <= p || owner[p] != 0)
 }
 
 fn map_byte(owner: &[u8; Geometry::MOST_PAGES], pages: usize, i: usize) -> u8
@@ -36,23 +31,18 @@ fn map_byte(owner: &[u8; Geometry::MOST_PAGES], pages: usize, i: usize) -> u8
     ensures { result ≡ byte_in owner.now pages i }
 {
     let mut bits: u8 = 0;
-    let mut j: usize = 0;
-    while j < 8 {
-        let bit = shut(owner, pages, 8 * i + j);
-        bits = bits | (bit << j);
-        j += 1;
+    for j in 0..8 {
+        bits |= shut(owner, pages, 8 * i + j) << j;
     }
     bits
 }
 
-fn fill(owner: &[u8; Geometry::MOST_PAGES], pages: usize, n: usize, buffer: &mut [u8])
-    requires { (pages ≤ most_pages) × ((n ≤ map_length most_pages) × (n ≤ length buffer.old)) }
-    ensures { buffer.new ≡ sets buffer.old 0 (table (byte_in owner.now pages) n) }
+fn fill(owner: &[u8; Geometry::MOST_PAGES], pages: usize, map: &mut [u8])
+    requires { (pages ≤ most_pages) × (length map.old ≤ map_length most_pages) }
+    ensures { map.new ≡ table (byte_in owner.now pages) (length map.old) }
 {
-    let mut i: usize = 0;
-    while i < n {
-        buffer[i] = map_byte(owner, pages, i);
-        i += 1;
+    for (i, byte) in map.iter_mut().enumerate() {
+        *byte = map_byte(owner, pages, i);
     }
 }
 
@@ -62,11 +52,11 @@ pub fn device_map(s: State, buffer: &mut [u8]) -> Mapped
     if !wellformed::state_right(s) {
         return Mapped::Refused(1);
     }
-    let n = (s.pages + 7) / 8;
+    let n = s.pages.div_ceil(8);
     if buffer.len() < n {
         return Mapped::Refused(9);
     }
-    fill(&s.owner, s.pages, n, buffer);
+    fill(&s.owner, s.pages, &mut buffer[..n]);
     Mapped::Bytes(n)
 }
 

@@ -1,28 +1,51 @@
 -- What start gives is well formed.
-use Prim.Native.Nat.{ℕ, ◌-◌, ◌*◌, ◌<◌}
+use Prim.Native.Nat.{ℕ, ◌-◌, ◌*◌, ◌≤◌, ◌<◌}
 use native.Mathlib.Omega.{arith}
 use mathlib.Core.Path.{◌≡◌, refl, sym, ap, ◌∙◌}
 use mathlib.Core.Bool.{true, false, false≢true}
 use mathlib.Core.List.{List}
-use lib.ListN.{get_or, replicate, get_or-replicate}
+use mathlib.Core.Logic.{inl, inr, ⊎_elim}
+use lib.ListN.{length, get_or, replicate, length-replicate, get_or-replicate}
 use borrow.Author.Tests.{lt-ltb, le-ltb}
 use Rattle.lists.specs.Below.{table}
-use Rattle.lists.proofs.Logic.{decided}
-use Rattle.lists.proofs.Tables.{table_at}
+use Rattle.lists.proofs.Logic.{decided, lt_or_ge}
+use Rattle.lists.proofs.Tables.{table_at, table_is}
 use Rattle.geometry.specs.Geometry.{page_size, most_pages, slot_count}
 use Rattle.fields.specs.Pages.{has_page}
+use Rattle.painting.specs.Painting.{painted}
+use Rattle.painting.proofs.Painted.{painted_long, painted_in, painted_out}
 use Rattle.state.specs.declared.Card.{Card}
 use Rattle.state.specs.declared.Slot.{Slot}
 use Rattle.state.specs.Zero.{zero_card, zero_slot, no_slot}
 use Rattle.state.specs.Face.{Face, face_of, pcrs_of, card_of, card_at, owner_at}
 use Rattle.state.proofs.Faces.{card_at_lem, pcrs_at}
-use Rattle.wellformed.specs.WellFormed.{sizes_right, card_right, holds_at, pcrs_zero, face_right, state_right}
+use Rattle.wellformed.specs.WellFormed.{sizes_right, monitors, card_right, holds_at, pcrs_zero, face_right, state_right}
 use Rattle.wellformed.proofs.Facts.{Sizes, sizes_hold, sizes_of, of_right, zero_holds}
 use Rattle.wellformed.proofs.Zeros.{zero_card_lem, zero_card_right, zero_pcrs_lem}
 use Rattle.wellformed.proofs.Runs.{zero_running_lem}
 use Rattle.wellformed.proofs.States.{of_pcrs, of_state, of_well}
 use Rattle.start.specs.Start.{fresh_owner, bare, fresh_state, start_of}
 use Rattle.start.specs.Promise.{InRange, Accepts, Refuses}
+
+-- the zero table with the monitor's pages painted
+pub fresh_painted : (p m : ℕ) → m ≤ p → p ≤ most_pages → painted (replicate most_pages 0) (p - m) m monitors ≡ table (fresh_owner p m) most_pages
+fresh_painted p m a b = table_is (painted zero (p - m) m monitors) most_pages (fresh_owner p m) 0 (painted_long zero (p - m) monitors m ∙ long) at
+  where
+    zero : List ℕ
+    zero = replicate most_pages 0
+
+    long : length zero ≡ most_pages
+    long = length-replicate {A = ℕ} most_pages 0
+
+    at : (i : ℕ) → i < most_pages → get_or (painted zero (p - m) m monitors) i 0 ≡ fresh_owner p m i
+    at i l =
+        ⊎_elim
+        (λ (d : i < p - m). painted_out zero (p - m) monitors m i (inl d) ∙ get_or-replicate most_pages i 0 0 l ∙ rw (lt-ltb i (p - m) d))
+        (λ (d : p - m ≤ i). ⊎_elim
+        (λ (e : i < p). painted_in zero (p - m) monitors m i (omega (arith, long)) d (omega arith) ∙ rw (le-ltb i (p - m) d, lt-ltb i p e))
+        (λ (e : p ≤ i). painted_out zero (p - m) monitors m i (inr (omega arith)) ∙ get_or-replicate most_pages i 0 0 l ∙ rw (le-ltb i (p - m) d, le-ltb i p e))
+        (lt_or_ge i p))
+        (lt_or_ge i (p - m))
 
 module _ (p m : ℕ) where
   abbrev owner : List ℕ

@@ -20,29 +20,13 @@ pub struct Started {
     pub state: State,
 }
 
-fn fresh_page(p: usize, m: usize, i: usize) -> u8
-    requires { m ≤ p }
-    ensures { result ≡ fresh_owner p m i }
-{
-    if i < p - m {
-        return 0;
-    }
-    if i < p {
-        return wellformed::MONITORS;
-    }
-    0
-}
-
+// The first pages are open, the top m the monitor's; places from p on are 0.
 fn fresh_owner(p: usize, m: usize) -> [u8; Geometry::MOST_PAGES]
-    requires { m ≤ p }
+    requires { (m ≤ p) × (p ≤ most_pages) }
     ensures { result ≡ table (fresh_owner p m) most_pages }
 {
     let mut owner = [0u8; Geometry::MOST_PAGES];
-    let mut i: usize = 0;
-    while i < Geometry::MOST_PAGES {
-        owner[i] = fresh_page(p, m, i);
-        i += 1;
-    }
+    painting::paint(&mut owner, p - m, m, wellformed::MONITORS);
     owner
 }
 

@@ -5,15 +5,16 @@ use mathlib.Core.Path.{◌≡◌, sym, ap, ◌∙◌}
 use mathlib.Core.Bool.{true, false}
 use mathlib.Core.List.{List}
 use lib.ListN.{length}
-use lib.Seq.{sets}
+use lib.Seq.{sets, length-take-le}
+use Rattle.lists.specs.Below.{table}
 use Rattle.geometry.specs.Geometry.{most_pages}
 use Rattle.state.specs.declared.State.{State}
 use Rattle.state.specs.Face.{face_of}
 use Rattle.wellformed.specs.WellFormed.{state_right}
 use Rattle.wellformed.proofs.Facts.{right_of}
 use Rattle.wellformed.proofs.States.{state_face}
-use Rattle.devicemap.specs.Map.{map_length, mapped, buffer_after}
-use Rattle.devicemap.proofs.Maps.{map_same}
+use Rattle.devicemap.specs.Map.{map_length, byte_in, mapped, buffer_after}
+use Rattle.devicemap.proofs.Maps.{length_up, filled, map_same}
 use Rattle.devicemap.proofs.device_map.Goals as goal
 
 most : (s : State) → state_right s ≡ true → s.pages ≤ most_pages
@@ -26,26 +27,29 @@ returns-then-not-state_right c =
     let t : state_right s ≡ false = sym c.state_right.ensures ∙ c.if-not-state_right.true in
     (rw t, rw t)
 
-pub overflow_add-n : goal.overflow_add-n
-overflow_add-n c = omega (arith, most c.args.s (sym c.state_right.ensures ∙ c.if-not-state_right.false))
-
 pub returns-then-buffer-n : goal.returns-then-buffer-n
 unfolding mapped buffer_after
 returns-then-buffer-n c =
     let a = c.args in
     let t : state_right a.s ≡ true = sym c.state_right.ensures ∙ c.if-not-state_right.false in
-    let u = lt-leb (map_length a.s.pages) (length a.buffer.now) c.if-buffer-n.true in
+    let n = c.div_ceil-n.ensures ∙ length_up a.s.pages in
+    let u = lt-leb (map_length a.s.pages) (length a.buffer.now) (rw n at c.if-buffer-n.true) in
     (rw (t, u), rw (t, u))
 
 pub fill-requires : goal.fill-requires
 fill-requires c =
-    let m = most c.args.s (sym c.state_right.ensures ∙ c.if-not-state_right.false) in
-    (m, (omega (arith, m), c.if-buffer-n.false))
+    let a = c.args in
+    let m = most a.s (sym c.state_right.ensures ∙ c.if-not-state_right.false) in
+    (m, omega (arith, m, c.div_ceil-n.ensures, length_up a.s.pages, length-take-le _ a.buffer.now c.if-buffer-n.false))
 
 pub returns : goal.returns
 unfolding mapped buffer_after
 returns c =
     let a = c.args in
     let t : state_right a.s ≡ true = sym c.state_right.ensures ∙ c.if-not-state_right.false in
-    let u = le-leb (map_length a.s.pages) (length a.buffer.now) c.if-buffer-n.false in
-    (rw (t, u), rw (t, u) (c.fill.ensures ∙ ap (λ (l : List ℕ). sets a.buffer.now 0 l) (map_same a.s)))
+    let n = c.div_ceil-n.ensures ∙ length_up a.s.pages in
+    let u = le-leb (map_length a.s.pages) (length a.buffer.now) (rw n at c.if-buffer-n.false) in (
+      rw (t, u, n),
+      rw (t, u) (filled a.buffer.now _ _ c.if-buffer-n.false _ c.fill.ensures ∙ ap (λ (k : ℕ). sets a.buffer.now 0 (table (byte_in a.s.owner a.s.pages) k)) n
+          ∙ ap (λ (l : List ℕ). sets a.buffer.now 0 l) (map_same a.s)),
+    )

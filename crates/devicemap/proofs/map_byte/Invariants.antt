@@ -1,10 +1,6 @@
-use Prim.Native.Nat.{◌≤◌, ◌-◌}
 use mathlib.Core.Path.{◌≡◌}
 use Rattle.devicemap.specs.Map.{number_of, bit_in}
 use Rattle.devicemap.proofs.map_byte.Given as goal
 
 abbrev pub invariant-loop-j : goal.invariant-loop-j
-invariant-loop-j l = (l.j ≤ 8) × (l.bits ≡ number_of l.j (bit_in l.owner l.pages l.i))
-
-abbrev pub decreases-loop-j : goal.decreases-loop-j
-decreases-loop-j l = 8 - l.j
+invariant-loop-j l = l.bits ≡ number_of l.j (bit_in l.owner l.pages l.i)
