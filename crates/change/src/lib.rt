@@ -128,7 +128,7 @@ fn filled(slot: Slot) -> Seat
 {
     Seat {
         slot,
-        fields: Slot::zero().card.fields,
+        fields: Fields::NONE,
         owner: 0,
     }
 }

@@ -7,6 +7,7 @@ ghost use Rattle.rules.specs.Tests.{kept_as};
 ghost use Rattle.switch.specs.Record.{entered_record, CallEnters, ReturnLeaves};
 
 use state::Running;
+use std::mem;
 
 // "A length of 0 in the entry means that address isn't looked at and is kept as 0."
 pub fn kept_as(length: usize, address: usize) -> usize
@@ -30,13 +31,14 @@ pub fn monitor_enter(running: &mut Running, slot: usize, out: usize, length: usi
 pub fn monitor_leave(running: &mut Running) -> Running
     ensures { (result ≡ running.old) × (running.new ≡ zero_running) }
 {
-    let was = *running;
-    *running = Running {
-        slot: 0,
-        out: 0,
-        length: 0,
-    };
-    was
+    mem::replace(
+        running,
+        Running {
+            slot: 0,
+            out: 0,
+            length: 0,
+        },
+    )
 }
 
 // What Call's rule puts into the state's record is what `monitor_enter` leaves in the lent one.
