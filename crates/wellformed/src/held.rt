@@ -13,40 +13,35 @@ use sha_1::Digest;
 use state::Slot;
 
 // ---- free slots: every place is unused, every byte zero
-fn pcr_bits(x: Digest) -> u8
-    ensures { eqb result 0 ≡ all_below digest_size (byte_zero_at x) }
+fn pcr_bits(x: &Digest) -> u8
+    ensures { eqb result 0 ≡ all_below digest_size (byte_zero_at x.now) }
 {
     let mut bits: u8 = 0;
-    let mut i: usize = 0;
-    while i < Geometry::DIGEST {
-        bits = bits | x.bytes[i];
-        i += 1;
+    for b in &x.bytes {
+        bits |= *b;
     }
     bits
 }
 
-fn pcrs_bits(pcrs: [Digest; Geometry::PCRS]) -> u8
-    ensures { eqb result 0 ≡ pcrs_zero pcrs }
+fn pcrs_zero(pcrs: &[Digest; Geometry::PCRS]) -> bool
+    ensures { result ≡ pcrs_zero pcrs.now }
 {
     let mut bits: u8 = 0;
-    let mut i: usize = 0;
-    while i < Geometry::PCRS {
-        let x = pcrs[i];
-        bits = bits | pcr_bits(x);
-        i += 1;
+    for x in pcrs {
+        bits |= pcr_bits(x);
     }
-    bits
+    bits == 0
 }
 
-fn free_right(mark: u64, f: &Fields, pcrs: [Digest; Geometry::PCRS]) -> bool
-    ensures { result ≡ (eqb mark 0 && fields_zero f.now) && pcrs_zero pcrs }
+fn free_right(mark: u64, f: &Fields, pcrs: &[Digest; Geometry::PCRS]) -> bool
+    ensures { result ≡ (eqb mark 0 && fields_zero f.now) && pcrs_zero pcrs.now }
 {
     if !((mark == 0) & ((f.r == 0) & (f.e == 0))) {
         return false;
     }
     let unused = keeps::unused_zero(f);
-    let bits = pcrs_bits(pcrs);
-    unused & (bits == 0)
+    let zero = pcrs_zero(pcrs);
+    unused & zero
 }
 
 // ---- registered slots
@@ -60,11 +55,11 @@ fn used_right(f: &Fields, top: usize) -> bool
     keeps::run_end(f.runs[f.r - 1]) <= top
 }
 
-pub fn slot_right(x: Slot, top: usize) -> bool
-    ensures { result ≡ slot_right x top }
+pub fn slot_right(x: &Slot, top: usize) -> bool
+    ensures { result ≡ slot_right x.now top }
 {
     if x.card.registered {
         return used_right(&x.card.fields, top);
     }
-    free_right(x.card.mark, &x.card.fields, x.pcrs)
+    free_right(x.card.mark, &x.card.fields, &x.pcrs)
 }

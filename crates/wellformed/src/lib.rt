@@ -85,7 +85,7 @@ fn tried(
     requires { (k < slot_count) × (top ≤ most_pages) }
     ensures { (result ≡ tried_of x.now k top owner.now) × (t.new ≡ tried_table x.now k top t.old) }
 {
-    if !held::slot_right(*x, top) {
+    if !held::slot_right(x, top) {
         return false;
     }
     if !x.card.registered {

@@ -25,4 +25,4 @@ free f m u z h e =
     rw (v, and_l m _ h, r, s)
 
 pub returns : goal.returns
-returns c = rw c.pcrs_bits-bits.ensures (free c.args.f.now _ _ _ c.if-not-mark-f.false c.unused_zero-unused.ensures)
+returns c = rw c.pcrs_zero-zero.ensures (free c.args.f.now _ _ _ c.if-not-mark-f.false c.unused_zero-unused.ensures)

@@ -1,12 +1,10 @@
-use borrow.Author.Rules.{rules}
 use mathlib.Core.Path.{refl}
 use lib.ListN.{get_or}
 use Rattle.lists.proofs.All.{bits_none, bits_step}
-use native.Mathlib.Omega.{arith}
 use Rattle.wellformed.proofs.held.pcr_bits.Goals as goal
 
-pub loop-i-init : goal.loop-i-init
-loop-i-init c = (search rules, bits_none _)
+pub loop-b-init : goal.loop-b-init
+loop-b-init c = bits_none _
 
-pub loop-i-preserved : goal.loop-i-preserved
-loop-i-preserved c = let l = c in (omega arith, bits_step _ l.loop-i.i l.loop-i.bits (get_or l.args.x.bytes l.loop-i.i 0) l.loop-i.invariant.1 refl)
+pub loop-b-preserved : goal.loop-b-preserved
+loop-b-preserved c = bits_step _ c.loop-b.b-index c.loop-b.bits (get_or c.args.x.now.bytes c.loop-b.b-index 0) c.loop-b.invariant refl
