@@ -20,7 +20,7 @@ pub fn is_own(v: u8, k: usize) -> bool
     requires { k < slot_count }
     ensures { result ≡ eqb v (k + 1) }
 {
-    v as usize == k + 1
+    usize::from(v) == k + 1
 }
 
 // A page of the slot's code runs.
