@@ -2,7 +2,7 @@
 use mathlib.Core.Path.{◌≡◌, refl, ap, ap₂, sym, ◌∙◌}
 use borrow.Rule.Slice.PartMut.{put_mid}
 use Prim.Native.Nat.{ℕ, suc, ◌+◌, ◌-◌, ◌*◌, ◌%◌, ◌^◌, ◌<◌, ◌≤◌}
-use mathlib.Core.List.{List, [], ◌∷◌, ◌++◌, append_assoc, append-nil}
+use mathlib.Core.List.{List, [], ◌∷◌, ◌++◌, append_assoc}
 use native.Mathlib.Omega.{arith}
 use lib.ListN.{length, take, drop, set, replicate, length-append}
 use lib.Seq.{set_at, take_at, drop_at}
@@ -23,10 +23,6 @@ closing_same n a b e =
     (sym (big_low 8 (a * 8)) ∙ ap (big 8) e ∙ big_low 8 (b * 8))
 
 -- ---- x, and zeros up to n bytes
-
-pub filled_long : (n : ℕ) (x : List ℕ) → length x ≤ n → length (filled n x) ≡ n
-unfolding filled
-filled_long n x h = simp (length-append, zeros_long) (omega arith)
 
 pub filled_take : (n k : ℕ) (x : List ℕ) → length x ≡ k → take k (filled n x) ≡ x
 unfolding filled
@@ -104,11 +100,6 @@ pub closing_filled : (n k total : ℕ) → n % 64 ≡ k % 64 → closing n total
 unfolding closing
 closing_filled n k total e = rw e
 
--- an array that is full
-pub filled_full : (n : ℕ) (x : List ℕ) → length x ≡ n → filled n x ≡ x
-unfolding filled zeros
-filled_full n x e = let k : n - length x ≡ 0 = omega arith in rw (k, append-nil)
-
 -- the bytes of a tail that count, and their number
 pub tail_part : (x : List ℕ) (total : ℕ) → take (tail_of x total).count (tail_of x total).bytes ≡ ending x total
 unfolding tail_of
@@ -117,7 +108,3 @@ tail_part x total = filled_take 128 (length (ending x total)) (ending x total) r
 pub tail_fits : (x : List ℕ) (total : ℕ) → (tail_of x total).count ≤ 128
 unfolding tail_of
 tail_fits x total = omega (arith, ending_long x total)
-
-pub tail_long : (x : List ℕ) (total : ℕ) → length (tail_of x total).bytes ≡ 128
-unfolding tail_of
-tail_long x total = filled_long 128 (ending x total) (omega (arith, ending_long x total))

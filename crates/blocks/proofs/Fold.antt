@@ -10,7 +10,6 @@ use Rattle.std.specs.List.{fold}
 use Rattle.std.specs.Simd.{first_chunks}
 use Rattle.std.proofs.lemmas.List.Sums.{fold-append}
 use Rattle.lists.specs.Bytes.{part}
-use Rattle.lists.proofs.Parts.{part_long}
 use Rattle.blocks.specs.Blocks.{block, whole, after, folded, rest}
 
 block_left : (x y : List ℕ) (i : ℕ) → i + 64 ≤ length x → block (x ++ y) i ≡ block x i
@@ -21,10 +20,6 @@ block_left x y i h =
 block_right : (x y : List ℕ) (i : ℕ) → block (x ++ y) (length x + i) ≡ block y i
 unfolding block part
 block_right x y i = ap (take 64) (drop-append-add x y i)
-
-pub block_long : (x : List ℕ) (i : ℕ) → i + 64 ≤ length x → length (block x i) ≡ 64
-unfolding block
-block_long x i h = part_long x i 64 h
 
 -- one chunk more is the block that starts there
 chunks_more : (m : List ℕ) (n : ℕ) → first_chunks 64 (suc n) m ≡ first_chunks 64 n m ++ (block m (n * 64) ∷ [])

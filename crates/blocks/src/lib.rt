@@ -1,6 +1,6 @@
 #![tactic(auto)]
 
-ghost use Rattle.std.specs.Prelude.{◌≡◌, ◌+◌, ◌-◌, ◌*◌, ◌%◌, ◌≤◌, ◌<◌, length, take};
+ghost use Rattle.std.specs.Prelude.{◌≡◌, ◌+◌, ◌-◌, ◌*◌, ◌≤◌, ◌<◌, length, take};
 ghost use Rattle.lists.specs.Numbers.{big_at};
 ghost use Rattle.blocks.specs.Blocks.{block_size, word_size, length_size, gap};
 ghost use Rattle.blocks.specs.Tail as Tails;

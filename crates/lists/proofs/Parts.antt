@@ -1,4 +1,4 @@
--- Laws of bytes put into a list (`sets`) and taken out of it (`part`), and of zeros; the turns of the loops that copy.
+-- Laws of bytes put into a list (`sets`) and taken out of it (`part`), and of zeros; the turn of a loop that stores.
 use mathlib.Core.Path.{◌≡◌, refl, sym, ap, ◌∙◌}
 use mathlib.Core.Logic.{◌≢◌, ◌⊎◌, ⊎_elim}
 use mathlib.Core.List.{List, [], ◌∷◌, ◌++◌, append_assoc}
@@ -208,18 +208,9 @@ sets_aside vs vs' l l' a i e h n = go (dec_lt i a) (dec_lt i (a + length vs))
     go (no p) (yes q) = absurd (n (omega arith) q)
     go (no p) (no q) = sets_after vs l a i (omega arith) ∙ h ∙ sym (sets_after vs' l' a i (omega arith))
 
--- ---- the turns of loops that copy
+-- ---- the turn of a loop that stores
 
 -- one store right after the bytes that are in place
 pub sets_turn : {d : List ℕ} (m : List ℕ) (at i : ℕ) (bs : List ℕ) (x : ℕ) → d ≡ sets m at bs → length bs ≡ i
     → set d (at + i) x ≡ sets m at (bs ++ (x ∷ []))
 sets_turn m at i bs x e l = rw (e, ← l) (sym (sets_append bs (x ∷ []) m at))
-
--- a turn of a loop that copies a list into another
-pub put_turn : {d : List ℕ} (m : List ℕ) (at : ℕ) (p : List ℕ) (i : ℕ) → d ≡ sets m at (take i p) → i < length p
-    → set d (at + i) (get_or p i 0) ≡ sets m at (take (i + 1) p)
-put_turn m at p i e h = rw (add-one, take-suc p i 0 h) (sets_turn m at i (take i p) (get_or p i 0) e (length-take-le i p (omega arith)))
-
--- a turn of a loop that zeroes
-pub zero_turn : {d : List ℕ} (m : List ℕ) (at i : ℕ) → d ≡ sets m at (zeros i) → set d (at + i) 0 ≡ sets m at (zeros (i + 1))
-zero_turn m at i e = rw zeros_more (sets_turn m at i (zeros i) 0 e (zeros_long i))

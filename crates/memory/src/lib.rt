@@ -33,7 +33,8 @@ pub fn zero_page(memory: &mut [u8], page: usize)
     zero_bytes(memory, page * Geometry::PAGE, Geometry::PAGE);
 }
 
-// n bytes go from one place of memory to another, also where the two overlap; by way of an array
+// n bytes, at most a page's worth, go from one place of memory to another, also where the two overlap. They go by way of an array, since the library
+// has no copy_within and one slice is lent once: LLVM makes one memmove of the two copies, and no array.
 pub fn move_bytes(memory: &mut [u8], from: usize, to: usize, n: usize)
     requires { (from + n ≤ length memory.old) × ((to + n ≤ length memory.old) × (n ≤ page_size)) }
     ensures { memory.new ≡ sets memory.old to (part memory.old from n) }

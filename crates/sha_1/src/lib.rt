@@ -1,7 +1,6 @@
 #![tactic(auto)]
 
-ghost use Rattle.std.specs.Prelude.{◌≡◌, ◌%◌, ◌++◌};
-ghost use Rattle.lists.specs.Numbers.{big};
+ghost use Rattle.std.specs.Prelude.{◌≡◌, ◌++◌};
 ghost use Rattle.blocks.specs.Blocks as Blocks;
 ghost use Rattle.rounds.specs.Rounds as Rounds;
 ghost use Rattle.sha_1.specs.Sha1 as Sha1;
