@@ -1,12 +1,12 @@
 -- "Bit p mod 8 of byte p/8 is 1 (shut) unless page p is open; spare high bits of the last byte are 1. It fills P/8 bytes, rounded up."
-use Rattle.std.specs.Prelude.{ℕ, zero, suc, ◌+◌, ◌*◌, ◌/◌, ◌^◌, ◌&&◌, List, length, get_or, leb, ltb, eqb}
+use Rattle.std.specs.Prelude.{ℕ, zero, suc, ◌+◌, ◌*◌, ◌/◌, ◌^◌, ◌&&◌, List, length, get_or, leb, ltb, eqb, Result, Ok, Err}
 use Rattle.std.proofs.lemmas.List.Edits.{sets}
 use Rattle.lists.specs.Below.{pick, table}
 use Rattle.state.specs.declared.State.{State}
 use Rattle.state.specs.Face.{Face, face_of, is_open}
 use Rattle.wellformed.specs.WellFormed.{state_right}
-use Rattle.devicemap.specs.declared.Mapped.{Mapped}
-use Rattle.devicemap.specs.declared.Mapped.TheVariants.{Bytes, Refused}
+use Rattle.events.specs.declared.Refusal.{Refusal}
+use Rattle.events.specs.declared.Refusal.TheVariants.{NotWellFormed, BufferShort}
 
 -- the number with bits f 0, f 1, .., f (n - 1), least first
 unfoldable pub number_of : ℕ → (ℕ → ℕ) → ℕ
@@ -28,8 +28,8 @@ unfoldable pub map_of : Face → List ℕ
 map_of f = table (map_byte f) (map_length f.pages)
 
 -- "Refusals 1 (memory length aside, since none is lent), 9."
-unfoldable pub mapped : State → ℕ → Mapped
-mapped s room = pick (state_right s) (pick (leb (map_length s.pages) room) (Bytes (map_length s.pages)) (Refused 9)) (Refused 1)
+unfoldable pub mapped : State → ℕ → Result ℕ Refusal
+mapped s room = pick (state_right s) (pick (leb (map_length s.pages) room) (Ok (map_length s.pages)) (Err BufferShort)) (Err NotWellFormed)
 
 -- an accepted answer "fills the first n bytes of the buffer and no others"; a refusal keeps every byte
 unfoldable pub buffer_after : State → List ℕ → List ℕ

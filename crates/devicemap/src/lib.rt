@@ -8,15 +8,9 @@ ghost use Rattle.geometry.specs.Geometry.{most_pages};
 ghost use Rattle.devicemap.specs.Map.{map_length, shut_in, byte_in, mapped, buffer_after};
 ghost use Rattle.devicemap.specs.Promise.{EachBit};
 
+use events::Refusal;
 use geometry::Geometry;
 use state::State;
-
-// So many bytes of the buffer, or the number of the refusal.
-#[derive(Clone, Copy)]
-pub enum Mapped {
-    Bytes(usize),
-    Refused(u8),
-}
 
 // A page's bit. From P on no page is open.
 fn shut(owner: &[u8; Geometry::MOST_PAGES], pages: usize, p: usize) -> u8
@@ -46,18 +40,19 @@ fn fill(owner: &[u8; Geometry::MOST_PAGES], pages: usize, map: &mut [u8])
     }
 }
 
-pub fn device_map(s: State, buffer: &mut [u8]) -> Mapped
+// So many bytes of the buffer, or the refusal.
+pub fn device_map(s: State, buffer: &mut [u8]) -> Result<usize, Refusal>
     ensures { (result ≡ mapped s (length buffer.old)) × (buffer.new ≡ buffer_after s buffer.old) }
 {
     if !wellformed::state_right(s) {
-        return Mapped::Refused(1);
+        return Err(Refusal::NotWellFormed);
     }
     let n = s.pages.div_ceil(8);
     if buffer.len() < n {
-        return Mapped::Refused(9);
+        return Err(Refusal::BufferShort);
     }
     fill(&s.owner, s.pages, &mut buffer[..n]);
-    Mapped::Bytes(n)
+    Ok(n)
 }
 
 // What the map promises beyond its contract, held by name.

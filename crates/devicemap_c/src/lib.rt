@@ -3,32 +3,14 @@
 
 ghost use Rattle.std.specs.Prelude.{◌≡◌};
 ghost use Rattle.twin.specs.Asked.{answered};
-ghost use Rattle.devicemap_c.specs.Map.{mapped_reply, host_map};
+ghost use Rattle.devicemap_c.specs.Map.{host_map};
 
-use devicemap::Mapped;
 use state::State;
 use twin::{Monitor, Reply};
-
-fn mapped(w: Mapped) -> Reply
-    ensures { result ≡ mapped_reply w }
-{
-    match w {
-        Mapped::Bytes(n) => Reply {
-            number: 0,
-            kind: 6,
-            value: n,
-        },
-        Mapped::Refused(k) => Reply {
-            number: k,
-            kind: 0,
-            value: 0,
-        },
-    }
-}
 
 // The device map of the state; or 1, or 9.
 pub fn monitor_device_map(m: Monitor, buffer: &mut [u8]) -> Reply
     ensures { answered result buffer.new ≡ host_map m buffer.old }
 {
-    mapped(devicemap::device_map(State::from(m), buffer))
+    Reply::from(devicemap::device_map(State::from(m), buffer))
 }

@@ -8,13 +8,15 @@ use Rattle.fields.specs.declared.Entry.{Entry}
 use Rattle.fields.specs.declared.Fields.{Fields}
 use Rattle.fields.specs.Fields.{fields_of, zero_fields}
 use Rattle.fields.specs.Rules.{counts_right, run_right, lengths_right, keeps_rules}
+use Rattle.events.specs.declared.Refusal.TheVariants.{RuleBroken}
+use Rattle.events.specs.Refusals.{number_of}
 use Rattle.manifest.specs.declared.Counts.{Counts}
 use Rattle.manifest.specs.declared.Reading.{Reading}
 use Rattle.manifest.specs.Layout.{item_size, trailer_size, size_of, fixed, run_in, entry_in, fields_at}
 
 -- "3: manifest or its fields break a rule"
 abbrev pub rule_broken : ℕ
-rule_broken = 3
+rule_broken = number_of RuleBroken
 
 -- whether two lists are the same
 abbrev pub equal : List ℕ → List ℕ → Bool

@@ -11,6 +11,7 @@ ghost use Rattle.manifest.specs.Layout.{trailer_size, trailer_bytes};
 ghost use Rattle.manifest.specs.Writer.{wrote, write_manifest};
 ghost use Rattle.manifest.specs.Reader.{trailer_of, refused_reading, read_manifest};
 
+use events::Refusal;
 use fields::{Entry, Fields, Run};
 use items::Item;
 
@@ -22,26 +23,13 @@ pub const ITEM: usize = 8;
 
 pub const TRAILER: usize = 16;
 
-// "3: manifest or its fields break a rule"
-const RULE_BROKEN: u8 = 3;
-
-// "9: answer buffer too short"
-const BUFFER_SHORT: u8 = 9;
-
 #[derive(Clone, Copy)]
 pub struct Counts {
     pub r: usize,
     pub e: usize,
 }
 
-// How many bytes were written, or the number of the refusal.
-#[derive(Clone, Copy)]
-pub enum Written {
-    Bytes(usize),
-    Refused(u8),
-}
-
-// 0 and the fields, or the number of the refusal and all zero.
+// 0 and the fields, or the number of the refusal and all zero. It stays a number beside the fields: C reads it (host/monitor.h).
 #[repr(C)]
 #[derive(Clone, Copy)]
 pub struct Reading {
@@ -89,7 +77,7 @@ fn refused() -> Reading
     ensures { result ≡ refused_reading }
 {
     Reading {
-        refusal: RULE_BROKEN,
+        refusal: u8::from(Refusal::RuleBroken),
         fields: Fields::NONE,
     }
 }
@@ -143,20 +131,21 @@ fn put_trailer(buffer: &mut [u8], at: usize, r: usize, e: usize)
     buffer[at + 12..at + 16].copy_from_slice(&entries.to_le_bytes());
 }
 
-pub fn write(f: Fields, buffer: &mut [u8]) -> Written
+// So many bytes of the buffer, or the refusal.
+pub fn write(f: Fields, buffer: &mut [u8]) -> Result<usize, Refusal>
     ensures { wrote result buffer.new ≡ write_manifest f buffer.old }
 {
     if !keeps::keeps_rules(&f) {
-        return Written::Refused(RULE_BROKEN);
+        return Err(Refusal::RuleBroken);
     }
     let n = ITEM * (f.r + f.e) + TRAILER;
     if buffer.len() < n {
-        return Written::Refused(BUFFER_SHORT);
+        return Err(Refusal::BufferShort);
     }
     let runs = &f.runs[..f.r];
     let entries = &f.entries[..f.e];
     items::put_all(buffer, 0, runs);
     items::put_all(buffer, ITEM * f.r, entries);
     put_trailer(buffer, ITEM * (f.r + f.e), f.r, f.e);
-    Written::Bytes(n)
+    Ok(n)
 }

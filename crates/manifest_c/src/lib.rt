@@ -4,10 +4,10 @@
 ghost use Rattle.std.specs.Prelude.{◌≡◌};
 ghost use Rattle.manifest.specs.Reader.{read_manifest};
 ghost use Rattle.twin.specs.Asked.{answered};
-ghost use Rattle.manifest_c.specs.Write.{written_reply, host_write};
+ghost use Rattle.manifest_c.specs.Write.{host_write};
 
 use fields::Fields;
-use manifest::{Reading, Written};
+use manifest::Reading;
 use twin::Reply;
 
 // The manifest's fields, or 3 and all zero.
@@ -17,27 +17,9 @@ pub fn monitor_manifest_read(bytes: &[u8]) -> Reading
     manifest::read(bytes)
 }
 
-fn written(w: Written) -> Reply
-    ensures { result ≡ written_reply w }
-{
-    match w {
-        Written::Bytes(n) => Reply {
-            number: 0,
-            kind: 6,
-            value: n,
-        },
-        Written::Refused(k) => Reply {
-            number: k,
-            kind: 0,
-            value: 0,
-        },
-    }
-}
-
 // The manifest that has these fields; or 3, or 9.
 pub fn monitor_manifest_write(fields: Fields, buffer: &mut [u8]) -> Reply
     ensures { answered result buffer.new ≡ host_write fields buffer.old }
 {
-    let w = manifest::write(fields, buffer);
-    written(w)
+    Reply::from(manifest::write(fields, buffer))
 }

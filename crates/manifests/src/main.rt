@@ -13,7 +13,7 @@ const GIVEN: usize = 256;
 fn again<W: Write>(output: &mut W, reading: manifest::Reading) {
     let fields = reading.fields;
     let mut buffer = [0u8; LONGEST];
-    manifest::write(fields, &mut buffer);
+    let _ = manifest::write(fields, &mut buffer);
     output.write_all(&buffer).is_ok();
 }
 

@@ -10,14 +10,14 @@ use Rattle.lists.specs.Below.{pick}
 use Rattle.fields.specs.declared.Fields.{Fields}
 use Rattle.fields.specs.Rules.{keeps_rules}
 use Rattle.manifest.specs.declared.Reading.{Reading}
-use Rattle.manifest.specs.declared.Written.TheVariants as written
+use Rattle.std.specs.Prelude.{Result, Ok, Err}
+use Rattle.events.specs.declared.Refusal.{Refusal}
+use Rattle.events.specs.declared.Refusal.TheVariants.{NotWellFormed, RuleBroken, BufferShort}
 use Rattle.manifest.specs.Layout.{size_of}
-use Rattle.manifest.specs.Reader.{rule_broken, accepts, fields_in, refused_reading, read_manifest}
-use Rattle.manifest.specs.Writer.{outcome_of, Wrote, wrote, buffer_short, write_manifest}
+use Rattle.manifest.specs.Reader.{accepts, fields_in, refused_reading, read_manifest}
+use Rattle.manifest.specs.Writer.{outcome_of, Wrote, wrote, write_manifest}
 use Rattle.state.specs.declared.State.{State}
 use Rattle.wellformed.specs.WellFormed.{state_right}
-use Rattle.devicemap.specs.declared.Mapped.{Mapped}
-use Rattle.devicemap.specs.declared.Mapped.TheVariants as map_answer
 use Rattle.devicemap.specs.Map.{map_length, mapped, buffer_after}
 
 pub read_refuses : (l : List ℕ) → (read_manifest l).refusal ≢ 0 → read_manifest l ≡ refused_reading
@@ -30,7 +30,7 @@ read_refuses l = go (accepts l) (record { refusal = 0; fields = fields_in l }) r
 
 -- what the writer leaves, by its two tests
 abbrev left : Bool → Bool → ℕ → List ℕ → List ℕ → Wrote
-left k l n x b = pick k (pick l (wrote (written.Bytes n) x) (wrote (written.Refused buffer_short) b)) (wrote (written.Refused rule_broken) b)
+left k l n x b = pick k (pick l (wrote (Ok n) x) (wrote (Err BufferShort) b)) (wrote (Err RuleBroken) b)
 
 left_refused : (k l : Bool) (n : ℕ) (x b : List ℕ) → (outcome_of (left k l n x b).answer).refusal ≢ 0 → (left k l n x b).buffer ≡ b
 left_refused true true n x b h = absurd (h refl)
@@ -42,18 +42,18 @@ unfolding write_manifest
 write_refuses f b = left_refused (keeps_rules f) (leb (size_of f.r f.e) (length b)) _ _ b
 
 -- the device map's answer, by its two tests
-abbrev told : Bool → Bool → ℕ → Mapped
-told k l n = pick k (pick l (map_answer.Bytes n) (map_answer.Refused 9)) (map_answer.Refused 1)
+abbrev told : Bool → Bool → ℕ → Result ℕ Refusal
+told k l n = pick k (pick l (Ok n) (Err BufferShort)) (Err NotWellFormed)
 
-abbrev Accepted : Mapped → Type 0
-Accepted (map_answer.Bytes n) = Unit {0}
-Accepted (map_answer.Refused k) = ⊥
+abbrev Accepted : Result ℕ Refusal → Type 0
+Accepted (Ok n) = Unit {0}
+Accepted (Err k) = ⊥
 
-told_refused : (k l : Bool) (n r : ℕ) (x b : List ℕ) → told k l n ≡ map_answer.Refused r → pick (k && l) x b ≡ b
+told_refused : (k l : Bool) (n : ℕ) (r : Refusal) (x b : List ℕ) → told k l n ≡ Err r → pick (k && l) x b ≡ b
 told_refused true true n r x b e = absurd (subst Accepted e tt)
 told_refused true false n r x b e = refl
 told_refused false l n r x b e = refl
 
-pub map_refuses : (s : State) (b : List ℕ) (r : ℕ) → mapped s (length b) ≡ map_answer.Refused r → buffer_after s b ≡ b
+pub map_refuses : (s : State) (b : List ℕ) (r : Refusal) → mapped s (length b) ≡ Err r → buffer_after s b ≡ b
 unfolding mapped buffer_after
 map_refuses s b r = told_refused (state_right s) (leb (map_length s.pages) (length b)) (map_length s.pages) r _ b

@@ -4,7 +4,7 @@
 -- In plain words: you can hand the monitor anything at all. It never hangs, never crashes and never reads or writes outside what it was lent. Either it
 -- does what was asked, or it says no with a number from document 01's table, and then nothing has changed: not its own books, not a byte of memory, not a
 -- byte of the buffer for the answer. So a caller may try, look at the number and try again, and a broken request costs nothing.
-use Rattle.std.specs.Prelude.{ℕ, ◌≤◌, ◌≡◌, ◌≢◌, List, length}
+use Rattle.std.specs.Prelude.{ℕ, ◌≤◌, ◌≡◌, ◌≢◌, List, length, Err}
 use Rattle.geometry.specs.Geometry.{slot_count}
 use Rattle.fields.specs.declared.Fields.{Fields}
 use Rattle.manifest.specs.Reader.{read_manifest, refused_reading}
@@ -14,7 +14,6 @@ use Rattle.manifest.specs.contracts.write as write
 use Rattle.state.specs.declared.State.{State}
 use Rattle.start.specs.Promise.{Refuses}
 use Rattle.start.specs.contracts.start as start
-use Rattle.devicemap.specs.declared.Mapped.TheVariants as map_answer
 use Rattle.devicemap.specs.Map.{mapped, buffer_after}
 use Rattle.devicemap.specs.contracts.device_map as map
 use Rattle.events.specs.declared.Answer.TheVariants.{Refused}
@@ -49,4 +48,4 @@ pub record EveryInputAnswered : Type 0 where
   pub start_refuses : Refuses
   pub read_refuses : (l : List ℕ) → (read_manifest l).refusal ≢ 0 → read_manifest l ≡ refused_reading
   pub write_refuses : (f : Fields) (b : List ℕ) → (outcome_of (write_manifest f b).answer).refusal ≢ 0 → (write_manifest f b).buffer ≡ b
-  pub map_refuses : (s : State) (b : List ℕ) (r : ℕ) → mapped s (length b) ≡ map_answer.Refused r → buffer_after s b ≡ b
+  pub map_refuses : (s : State) (b : List ℕ) (r : Refusal) → mapped s (length b) ≡ Err r → buffer_after s b ≡ b

@@ -13,7 +13,7 @@ use Rattle.lists.proofs.Parts.{part_sets}
 use Rattle.fields.specs.declared.Fields.{Fields}
 use Rattle.fields.specs.Rules.{keeps_rules}
 use Rattle.fields.proofs.Facts.{kept}
-use Rattle.manifest.specs.declared.Written.TheVariants as written
+use Rattle.std.specs.Prelude.{Ok}
 use Rattle.manifest.specs.Layout.{size_of, encode, fields_at}
 use Rattle.manifest.specs.Reader.{runs_in, entries_in, fields_in, accepts, refused_reading, read_manifest}
 use Rattle.manifest.specs.Writer.{outcome_of, Wrote, wrote, write_manifest}
@@ -33,19 +33,19 @@ unfolding read_manifest
 fields_of_lem l h = rw h
 
 -- the writer on fields that keep the rules
-gave : (f : Fields) (b : List ℕ) → keeps_rules f ≡ true → size_of f.r f.e ≤ length b → write_manifest f b ≡ wrote (written.Bytes (size_of f.r f.e)) (sets b 0 (encode f))
+gave : (f : Fields) (b : List ℕ) → keeps_rules f ≡ true → size_of f.r f.e ≤ length b → write_manifest f b ≡ wrote (Ok (size_of f.r f.e)) (sets b 0 (encode f))
 unfolding write_manifest
 gave f b h k = simp (h, le-leb (size_of f.r f.e) (length b) k)
 
-rewritten : (f : Fields) (l b : List ℕ) → keeps_rules f ≡ true → encode f ≡ l → length l ≤ length b → write_manifest f b ≡ wrote (written.Bytes (length l)) (sets b 0 l)
+rewritten : (f : Fields) (l b : List ℕ) → keeps_rules f ≡ true → encode f ≡ l → length l ≤ length b → write_manifest f b ≡ wrote (Ok (length l)) (sets b 0 l)
 rewritten f l b h e k =
     let n : size_of f.r f.e ≡ length l = sym (encode_long f) ∙ ap length e in
-    gave f b h (omega (arith, n)) ∙ λ i. wrote (written.Bytes (n i)) (sets b 0 (e i))
+    gave f b h (omega (arith, n)) ∙ λ i. wrote (Ok (n i)) (sets b 0 (e i))
 
 pub read_then_written : ReadThenWritten
 read_then_written l b y h k =
     let a = taken l h in
-    let w : write_manifest (read_manifest l).fields b ≡ wrote (written.Bytes (length l)) (sets b 0 l) =
+    let w : write_manifest (read_manifest l).fields b ≡ wrote (Ok (length l)) (sets b 0 l) =
     ap (λ (f : Fields). write_manifest f b) (fields_of_lem l a) ∙ rewritten (fields_in l) l b (accepted l a).rules (written_again l y a) k in
     (ap (λ (x : Wrote). outcome_of x.answer) w, ap (λ (x : Wrote). x.buffer) w)
 

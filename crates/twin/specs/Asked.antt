@@ -59,6 +59,11 @@ reply_of (answer.Left n) = reply 0 4 n
 reply_of (answer.Terminated k) = reply 0 5 k
 reply_of (answer.Filled n) = reply 0 6 n
 
+-- of the manifest's writer and of the device map: so many bytes, or a refusal
+abbrev pub counted_reply : Result ℕ Refusal → Reply
+counted_reply (Ok n) = reply 0 6 n
+counted_reply (Err r) = reply (number_of r) 0 0
+
 -- the answer that a reply stands for, if any
 abbrev pub refused_as : Option Refusal → Option Answer
 refused_as (Some r) = Some (answer.Refused r)

@@ -3,10 +3,10 @@
 
 ghost use Rattle.std.specs.Prelude.{◌≡◌};
 ghost use Rattle.twin.specs.Twin.{mode_of, number_of, opened_of, shut_of};
-ghost use Rattle.twin.specs.Asked.{source_of, asked_of, reply_of, unknown_reply};
+ghost use Rattle.twin.specs.Asked.{source_of, asked_of, reply_of, counted_reply, unknown_reply};
 ghost use Rattle.twin.specs.Promise.{AsGiven, Told, Answered};
 
-use events::{Answer, Event};
+use events::{Answer, Event, Refusal};
 use geometry::Geometry;
 use memory::Source;
 use state::{Mode, Running, Slot, State};
@@ -178,6 +178,19 @@ impl From<Answer> for Reply {
             kind,
             value,
         }
+    }
+}
+
+// So many bytes of the buffer, or a refusal: what the manifest's writer and the device map answer.
+impl From<Result<usize, Refusal>> for Reply {
+    ghost from_gives = { λ w r. r ≡ counted_reply w };
+
+    fn from(w: Result<usize, Refusal>) -> Reply {
+        let answer = match w {
+            Ok(n) => Answer::Filled(n),
+            Err(r) => Answer::Refused(r),
+        };
+        Reply::from(answer)
     }
 }
 

@@ -5,6 +5,7 @@ use Rattle.twin.specs.contracts.StateFromMonitor.from as twin_state_from_monitor
 use Rattle.twin.specs.contracts.MonitorFromState.from as twin_monitor_from_state
 use Rattle.twin.specs.contracts.EventTryFromRequest.try_from as twin_event_from_request
 use Rattle.twin.specs.contracts.ReplyFromAnswer.from as twin_reply_from_answer
+use Rattle.twin.specs.contracts.ReplyFromResultUsizeRefusal.from as twin_reply_from_counted
 use Rattle.twin.specs.contracts.ReplyFromNoEvent.from as twin_reply_from_none
 use Rattle.start_c.specs.contracts.monitor_start as start_c_monitor_start
 use Rattle.host.specs.contracts.monitor_event as host_monitor_event
@@ -31,6 +32,7 @@ pub record Board : Type 0 where
   pub twin_monitor_from_state_one : OneOutcome twin_monitor_from_state.ended (λ κs a z e. told ((twin_monitor_from_state.clauses w₀.𝓛 w₀.𝓜.mem w₀.𝓡.run κs a).ensures tt z e) (r_last _))
   pub twin_event_from_request_one : OneOutcome twin_event_from_request.ended (λ κs a z e. told ((twin_event_from_request.clauses w₀.𝓛 w₀.𝓜.mem w₀.𝓡.run κs a).ensures tt z e) (r_last _))
   pub twin_reply_from_answer_one : OneOutcome twin_reply_from_answer.ended (λ κs a z e. told ((twin_reply_from_answer.clauses w₀.𝓛 w₀.𝓜.mem w₀.𝓡.run κs a).ensures tt z e) (r_last _))
+  pub twin_reply_from_counted_one : OneOutcome twin_reply_from_counted.ended (λ κs a z e. told ((twin_reply_from_counted.clauses w₀.𝓛 w₀.𝓜.mem w₀.𝓡.run κs a).ensures tt z e) (r_last _))
   pub twin_reply_from_none_one : OneOutcome twin_reply_from_none.ended (λ κs a z e. told ((twin_reply_from_none.clauses w₀.𝓛 w₀.𝓜.mem w₀.𝓡.run κs a).ensures tt z e) (r_last _))
   pub start_c_monitor_start_one : OneOutcome start_c_monitor_start.ended start_c_monitor_start_says
   pub host_monitor_event_one : OneOutcome host_monitor_event.ended host_monitor_event_says

@@ -6,4 +6,4 @@ use Rattle.manifest_c.proofs.monitor_manifest_write.Goals as goal
 -- the writer's answer and buffer, as C sees them
 pub returns : goal.returns
 unfolding host_write
-returns c = (λ i. answered (c.written.ensures i) c.write-w.new.buffer) ∙ ap wrote_out c.write-w.ensures
+returns c = (λ i. answered (c.from.ensures i) c.write.new.buffer) ∙ ap wrote_out c.write.ensures

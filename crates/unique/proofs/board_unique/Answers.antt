@@ -10,6 +10,7 @@ returns c = record {
   twin_monitor_from_state_one = λ κs a z z' w w'. result;
   twin_event_from_request_one = λ κs a z z' w w'. result;
   twin_reply_from_answer_one = λ κs a z z' w w'. result;
+  twin_reply_from_counted_one = λ κs a z z' w w'. result;
   twin_reply_from_none_one = λ κs a z z' w w'. result;
   start_c_monitor_start_one = λ κs a z z' w w' p q. (both p.0 q.0, λ i. (both p.1 q.1 i, (tt, (tt, tt))));
   host_monitor_event_one = λ κs a z z' w w' p q. let o = both p q in ((λ i. (o i).reply), λ i. ((o i).monitor, (tt, (tt, ((o i).memory, ((o i).buffer, tt))))));
