@@ -17,6 +17,11 @@ number_of BufferShort = 9
 number_of NoSuchPcr = 10
 number_of Unreadable = 11
 
+-- "Refusal 0 is none": of what may be refused
+abbrev pub told_as : Option Refusal → ℕ
+told_as (Some r) = number_of r
+told_as None = 0
+
 -- the refusal that has a number
 abbrev pub refusal_of : ℕ → Option Refusal
 refusal_of n =

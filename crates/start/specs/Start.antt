@@ -1,11 +1,12 @@
 -- "Start takes P and M and gives the well-formed state in legacy mode with all slots free; out of range is refusal 4, with an all-zero state."
-use Rattle.std.specs.Prelude.{ℕ, ◌-◌, List, replicate, ltb}
+use Rattle.std.specs.Prelude.{ℕ, ◌-◌, List, replicate, ltb, Some, None}
 use Rattle.lists.specs.Below.{pick, table}
 use Rattle.geometry.specs.Geometry.{most_pages, slot_count}
 use Rattle.state.specs.declared.State.{State}
 use Rattle.state.specs.declared.Mode.TheVariants.{Legacy}
 use Rattle.state.specs.Zero.{zero_slot, zero_running, zero_state}
 use Rattle.wellformed.specs.WellFormed.{sizes_right, monitors}
+use Rattle.events.specs.declared.Refusal.TheVariants.{OutOfRange}
 use Rattle.start.specs.declared.Started.{Started}
 
 -- page i of a fresh machine of p pages, the top m of them the monitor's
@@ -19,9 +20,5 @@ bare p m owner = record { pages = p; kept = m; owner = owner; slots = replicate 
 unfoldable pub fresh_state : ℕ → ℕ → State
 fresh_state p m = bare p m (table (fresh_owner p m) most_pages)
 
--- "4: .. P or M out of range"; refusal 0 is none
-abbrev pub out_of_range : ℕ
-out_of_range = 4
-
 unfoldable pub start_of : ℕ → ℕ → Started
-start_of p m = pick (sizes_right p m) (record { refusal = 0; state = fresh_state p m }) (record { refusal = out_of_range; state = zero_state })
+start_of p m = pick (sizes_right p m) (record { refusal = None; state = fresh_state p m }) (record { refusal = Some OutOfRange; state = zero_state })

@@ -7,16 +7,14 @@ ghost use Rattle.geometry.specs.Geometry.{most_pages};
 ghost use Rattle.start.specs.Start.{fresh_owner, bare, start_of};
 ghost use Rattle.start.specs.Promise.{Accepts, Refuses};
 
+use events::Refusal;
 use geometry::Geometry;
 use state::{Mode, Running, Slot, State};
 
-// "4: .. P or M out of range"
-const OUT_OF_RANGE: u8 = 4;
-
-// A state, or the number of the refusal; 0 is none.
+// A state, or the refusal. It is no Result, since a refusal comes with a state too, all zero: `start::refuses` holds it.
 #[derive(Clone, Copy)]
 pub struct Started {
-    pub refusal: u8,
+    pub refusal: Option<Refusal>,
     pub state: State,
 }
 
@@ -55,13 +53,13 @@ pub fn start(pages: usize, kept: usize) -> Started
         let owner = fresh_owner(pages, kept);
         let fresh = bare_state(pages, kept, owner);
         return Started {
-            refusal: 0,
+            refusal: None,
             state: fresh,
         };
     }
     let none = bare_state(0, 0, [0u8; Geometry::MOST_PAGES]);
     Started {
-        refusal: OUT_OF_RANGE,
+        refusal: Some(Refusal::OutOfRange),
         state: none,
     }
 }

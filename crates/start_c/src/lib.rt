@@ -17,7 +17,7 @@ fn started(pages: usize, kept: usize) -> Begun
     ensures { result ≡ host_start pages kept }
 {
     let s = start::start(pages, kept);
-    let number = s.refusal;
+    let number = s.refusal.map_or(0, u8::from);
     Begun {
         monitor: Monitor::from(s.state),
         number,
