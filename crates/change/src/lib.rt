@@ -97,16 +97,7 @@ pub fn steering(turn: Turn) -> Option<Steer>
     let (mode, running) = match turn {
         Turn::Enters(running) => (Mode::Secure(running.slot), running),
         Turn::Leaves(running) => (Mode::Legacy, running),
-        Turn::Frees(_) => {
-            (
-                Mode::Legacy,
-                Running {
-                    slot: 0,
-                    out: 0,
-                    length: 0,
-                },
-            )
-        }
+        Turn::Frees(_) => (Mode::Legacy, Running::NONE),
         Turn::Kept | Turn::Extends { .. } | Turn::Enrolls { .. } => return None,
     };
     Some(Steer { mode, running })

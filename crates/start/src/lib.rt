@@ -38,11 +38,7 @@ fn bare_state(p: usize, m: usize, owner: [u8; Geometry::MOST_PAGES]) -> State
         owner: owner,
         slots: [free; Geometry::SLOTS],
         mode: Mode::Legacy,
-        running: Running {
-            slot: 0,
-            out: 0,
-            length: 0,
-        },
+        running: Running::NONE,
     }
 }
 

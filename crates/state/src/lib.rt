@@ -34,11 +34,20 @@ pub enum Mode {
 
 // The running call: its slot, and where its output goes.
 #[repr(C)]
-#[derive(Clone, Copy)]
+#[derive(Clone, Copy, PartialEq, Eq)]
 pub struct Running {
     pub slot: usize,
     pub out: usize,
     pub length: usize,
+}
+
+impl Running {
+    // No call runs: all zero.
+    pub const NONE: Running = Running {
+        slot: 0,
+        out: 0,
+        length: 0,
+    };
 }
 
 // P pages, of which the top M are kept for the monitor.
@@ -59,7 +68,7 @@ impl Slot {
         ensures { result ≡ zero_slot }
     {
         let pcr = Digest {
-            bytes: [0u8; Geometry::DIGEST],
+            bytes: [0; Geometry::DIGEST],
         };
         Slot {
             card: Card {

@@ -31,14 +31,7 @@ pub fn monitor_enter(running: &mut Running, slot: usize, out: usize, length: usi
 pub fn monitor_leave(running: &mut Running) -> Running
     ensures { (result ≡ running.old) × (running.new ≡ zero_running) }
 {
-    mem::replace(
-        running,
-        Running {
-            slot: 0,
-            out: 0,
-            length: 0,
-        },
-    )
+    mem::replace(running, Running::NONE)
 }
 
 // What Call's rule puts into the state's record is what `monitor_enter` leaves in the lent one.

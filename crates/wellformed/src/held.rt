@@ -13,6 +13,7 @@ use sha_1::Digest;
 use state::Slot;
 
 // ---- free slots: every place is unused, every byte zero
+// Zero where each byte is. A byte, and not a test: those of all eight are gathered as whole vectors (docs/SPEED.md), and no branch hangs on one.
 fn pcr_bits(x: &Digest) -> u8
     ensures { eqb result 0 ≡ all_below digest_size (byte_zero_at x.now) }
 {

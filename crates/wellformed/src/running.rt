@@ -13,7 +13,7 @@ use state::{Card, Mode, Running};
 fn running_zero(x: Running) -> bool
     ensures { result ≡ running_zero x }
 {
-    (x.slot == 0) & ((x.out == 0) & (x.length == 0))
+    x == Running::NONE
 }
 
 fn any_output(f: &Fields, n: usize) -> bool
