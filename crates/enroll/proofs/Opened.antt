@@ -1,9 +1,8 @@
 -- That every named page is open, asked page by page, is what the code asks run by run.
 use Prim.Native.Nat.{ℕ, ◌+◌, ◌-◌, ◌≤◌, ◌<◌}
 use native.Mathlib.Omega.{arith}
-use mathlib.Core.Path.{◌≡◌, refl, sym, ap, subst, ◌∙◌}
-use mathlib.Core.Bool.{Bool, true, ◌&&◌}
-use mathlib.Core.List.{[]}
+use mathlib.Core.Path.{◌≡◌, sym, subst}
+use mathlib.Core.Bool.{true, ◌&&◌}
 use lib.Dec.{ltb, eqb}
 use borrow.Author.Tests.{leb-true, ltb-true, le-leb, lt-ltb}
 use Rattle.lists.specs.Below.{all_below}

@@ -10,7 +10,7 @@ use Rattle.std.specs.List.{flat_map}
 use Rattle.std.proofs.lemmas.List.{flat_map_more, take_more}
 use Rattle.lists.specs.Below.{joined}
 use Rattle.lists.specs.Numbers.{little}
-use Rattle.lists.proofs.Tables.{joined_more, joined_long}
+use Rattle.lists.proofs.Tables.{joined_long}
 use Rattle.lists.proofs.Parts.{sets_next}
 use Rattle.lists.proofs.Numbers.{little_long}
 use Rattle.fields.specs.declared.Run.{Run}

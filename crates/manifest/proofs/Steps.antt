@@ -18,7 +18,7 @@ use Rattle.fields.specs.declared.Fields.{Fields}
 use Rattle.fields.specs.Fields.{no_run, no_entry, run_at, entry_at, fields_of}
 use Rattle.fields.specs.Rules.{counts_right, run_right, run_right_at, runs_right, lengths_right, entry_right_at, entries_right, keeps_rules}
 use Rattle.fields.proofs.Facts.{Counts, counts}
-use Rattle.std.specs.Prelude.{Option, Some, None}
+use Rattle.std.specs.Prelude.{Some, None}
 use Rattle.manifest.specs.declared.Counts as two
 use Rattle.manifest.specs.Layout.{size_of, fixed, run_in, entry_in, run_in_at, entry_in_at, placed, fields_at}
 use Rattle.manifest.specs.Reader.{

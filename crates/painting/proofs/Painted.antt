@@ -14,7 +14,7 @@ use lib.Dec.{leb}
 use borrow.Author.Tests.{leb-true, ltb-true, ltb-false, leb-false}
 use Rattle.lists.specs.Below.{any_below}
 use Rattle.lists.proofs.Logic.{and_l, and_r, or_cases, or_false_l, or_false_r, decided}
-use Rattle.lists.proofs.Parts.{sets_before, sets_after, sets_inside, sets_turn}
+use Rattle.lists.proofs.Parts.{sets_before, sets_after, sets_inside}
 use Rattle.fields.specs.declared.Run.{Run}
 use Rattle.fields.specs.Fields.{no_run, end_of}
 use Rattle.fields.specs.Rules.{holds}

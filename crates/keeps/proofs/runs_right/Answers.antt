@@ -1,6 +1,6 @@
 use Prim.Native.Nat.{ℕ, ◌<◌}
 use native.Mathlib.Omega.{arith}
-use mathlib.Core.Path.{◌≡◌, ap, ◌∙◌}
+use mathlib.Core.Path.{ap, ◌∙◌}
 use lib.ListN.{length-take}
 use lib.Seq.{get_or-take}
 use Rattle.lists.specs.Below.{pick}

@@ -1,5 +1,5 @@
 use native.Mathlib.Omega.{arith}
-use mathlib.Core.Path.{◌∙◌, ap}
+use mathlib.Core.Path.{◌∙◌}
 use Rattle.manifest.proofs.Puts.{trailer_written}
 use Rattle.manifest.proofs.put_trailer.Goals as goal
 

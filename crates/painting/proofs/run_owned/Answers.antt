@@ -1,8 +1,5 @@
 use Prim.Native.Nat.{◌+◌, ◌-◌, ◌<◌}
 use native.Mathlib.Omega.{arith}
-use mathlib.Core.Path.{ap, ◌∙◌}
-use lib.Bits.{bit_xor}
-use lib.Dec.{eqb}
 use lib.Seq.{get_or-take, get_or-drop}
 use Rattle.lists.proofs.All.{bits_step, xor_zero}
 use Rattle.painting.proofs.run_owned.Goals as goal

@@ -2,7 +2,7 @@ use Prim.Native.Nat.{◌*◌, ◌<◌}
 use native.Mathlib.Omega.{arith}
 use mathlib.Core.List.{[]}
 use mathlib.Core.Path.{refl, sym, subst, ◌∙◌}
-use lib.ListN.{get_or, length-take}
+use lib.ListN.{length-take}
 use lib.Seq.{get_or-take}
 use Rattle.lists.specs.Below.{joined}
 use Rattle.lists.specs.Bytes.{gather}

@@ -10,13 +10,10 @@ use Rattle.events.specs.declared.Refusal.TheVariants.{RuleBroken, NotOpen, NoFre
 use Rattle.state.proofs.Shaped.{state_shape}
 use Rattle.state.specs.Face.{Face, face_of}
 use Rattle.manifest.specs.declared.Reading.{Reading}
-use Rattle.sha_1.specs.Sha1.{sha1}
-use Rattle.geometry.specs.Geometry.{page_size, slot_count}
-use Rattle.lists.specs.Bytes.{gather}
+use Rattle.geometry.specs.Geometry.{slot_count}
 use Prim.Native.Nat.{ℕ}
 use borrow.Author.Tests.{eq-eqb, ne_eqb, ltb-true}
 use Rattle.enroll.proofs.FreeSlot.{found_at, not_found}
-use mathlib.Core.List.{List, []}
 use mathlib.Core.Path.{◌≡◌, sym, ap, ◌∙◌}
 use mathlib.Core.Bool.{Bool, ◌&&◌}
 use Rattle.lists.specs.Below.{all_below}
