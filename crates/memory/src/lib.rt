@@ -67,7 +67,7 @@ pub enum Source {
     Memory,
 }
 
-// The bytes that a source names, with no copy: all of the payload, or n bytes of memory.
+// The bytes that a source names, with no copy: all of the payload, or n bytes of memory. Of two lent slices, the form that document 01 names.
 pub fn chosen<'a>(
     payload: &'a [u8],
     memory: &'a [u8],

@@ -70,6 +70,7 @@ pub fn taken(h: Hashing, part: &[u8]) -> Hashing
 fn digest_of(w: rounds::Words) -> Digest
     ensures { result.bytes ≡ Sha1.bytes_of w }
 {
+    // Word by word: of `map` the check leaves open what each call of the closure gave.
     let words = [
         w.a.to_be_bytes(),
         w.b.to_be_bytes(),
@@ -101,6 +102,7 @@ pub fn hash(part: &[u8]) -> Digest
 pub fn hash_pair(x: Digest, y: Digest) -> Digest
     ensures { result.bytes ≡ Sha1.sha1 (x.bytes ++ y.bytes) }
 {
+    // An element of an array literal may be no field yet.
     let (p, q) = (x.bytes, y.bytes);
     hash([p, q].as_flattened())
 }
