@@ -10,7 +10,7 @@ ghost use Rattle.fields.specs.Rules.{counts_right, is_param, run_right, runs_rig
 use fields::{Entry, Fields, Run};
 use geometry::Geometry;
 
-// ---- counts
+// ---- counts: two numbers, since the reader tests them in the trailer, before there are fields
 pub fn counts_right(r: usize, e: usize) -> bool
     ensures { result ≡ counts_right (fields_of r e [] []) }
 {
@@ -152,7 +152,8 @@ pub fn unused_zero(f: &Fields) -> bool
         input |= entry.input;
         output |= entry.output;
     }
-    ((kind == 0) & ((count == 0) & (first == 0))) & ((address == 0) & ((input == 0) & (output == 0)))
+    ((kind == 0) & ((count == 0) & (first == 0)))
+        & ((address == 0) & ((input == 0) & (output == 0)))
 }
 
 // ---- every rule

@@ -39,13 +39,19 @@ impl Item for Run {
             first: u32::from_le_bytes([bytes[at + 4], bytes[at + 5], bytes[at + 6], bytes[at + 7]]),
         };
         let right = keeps::run_right(x);
-        if (bytes[at + 1] == 0) & right { Some(x) } else { None }
+        if (bytes[at + 1] == 0) & right {
+            Some(x)
+        } else {
+            None
+        }
     }
 
     fn bytes(self) -> [u8; ITEM] {
         let count = self.count.to_le_bytes();
         let first = self.first.to_le_bytes();
-        [self.kind, 0, count[0], count[1], first[0], first[1], first[2], first[3]]
+        [
+            self.kind, 0, count[0], count[1], first[0], first[1], first[2], first[3],
+        ]
     }
 }
 
@@ -62,14 +68,21 @@ impl Item for Entry {
             input: u16::from_le_bytes([bytes[at + 4], bytes[at + 5]]),
             output: u16::from_le_bytes([bytes[at + 6], bytes[at + 7]]),
         };
-        if keeps::lengths_right(x) { Some(x) } else { None }
+        if keeps::lengths_right(x) {
+            Some(x)
+        } else {
+            None
+        }
     }
 
     fn bytes(self) -> [u8; ITEM] {
         let address = self.address.to_le_bytes();
         let input = self.input.to_le_bytes();
         let output = self.output.to_le_bytes();
-        [address[0], address[1], address[2], address[3], input[0], input[1], output[0], output[1]]
+        [
+            address[0], address[1], address[2], address[3], input[0], input[1], output[0],
+            output[1],
+        ]
     }
 }
 

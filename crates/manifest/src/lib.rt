@@ -82,7 +82,7 @@ fn refused() -> Reading
     }
 }
 
-// The manifest, from the trailer backward.
+// The manifest, from the trailer backward. A loop for each kind of item: an Option cannot hold an array of them.
 pub fn read(bytes: &[u8]) -> Reading
     ensures { result ≡ read_manifest bytes.now }
 {
@@ -132,6 +132,7 @@ fn put_trailer(buffer: &mut [u8], at: usize, r: usize, e: usize)
 }
 
 // So many bytes of the buffer, or the refusal.
+// The fields come by value, as C hands them over (crate manifest_c).
 pub fn write(f: Fields, buffer: &mut [u8]) -> Result<usize, Refusal>
     ensures { wrote result buffer.new ≡ write_manifest f buffer.old }
 {

@@ -23,7 +23,7 @@ fn run_owned(o: &[u8; Geometry::MOST_PAGES], f: usize, n: usize, v: u8) -> bool
     requires { f + n ≤ most_pages }
     ensures { result ≡ all_below n (owned_from o.now f v) }
 {
-    let mut bad: u8 = 0;
+    let mut bad: u8 = 0; // gathered and asked once, so that a compiler compares whole words
     for x in &o[f..f + n] {
         bad |= *x ^ v;
     }
@@ -35,7 +35,7 @@ fn run_owned(o: &[u8; Geometry::MOST_PAGES], f: usize, n: usize, v: u8) -> bool
 pub fn same(a: &[u8; Geometry::MOST_PAGES], b: &[u8; Geometry::MOST_PAGES]) -> bool
     ensures { result ≡ all_below most_pages (alike a.now b.now) }
 {
-    let mut bad: u8 = 0;
+    let mut bad: u8 = 0; // gathered and asked once, as above: `==` stops at the first byte that differs
     for p in 0..Geometry::MOST_PAGES {
         bad |= a[p] ^ b[p];
     }

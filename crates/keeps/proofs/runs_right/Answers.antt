@@ -20,10 +20,10 @@ loop-x-preserved c =
     let q = get_or-take f.r f.runs c.loop-x.x-index no_run h in (
       (omega arith, (omega arith, omega arith)),
       rw q (runs_step f c.loop-x.x-index _ _ _ _ _ _ _ _ _ _ _ c.loop-x.invariant.1
-      (c.run_right-each.ensures ∙ ap run_right q)
-      (c.run_end-at.ensures.0 ∙ ap end_of q)
-      (c.if_param-params.ensures.0 ∙ ap (λ (x : Run). pick {A = ℕ} (is_param x) 1 0) q)
-      (c.if_param-pages.ensures.0 ∙ ap (λ (x : Run). pick {A = ℕ} (is_param x) x.count 0) q)),
+          (c.run_right-each.ensures ∙ ap run_right q)
+          (c.run_end-at.ensures.0 ∙ ap end_of q)
+          (c.if_param-params.ensures.0 ∙ ap (λ (x : Run). pick {A = ℕ} (is_param x) 1 0) q)
+          (c.if_param-pages.ensures.0 ∙ ap (λ (x : Run). pick {A = ℕ} (is_param x) x.count 0) q)),
     )
 
 pub returns : goal.returns
