@@ -20,9 +20,7 @@ fn source_right(s: State, source: Source, size: usize, address: usize, n: usize)
 {
     match source {
         Source::Payload => size <= Geometry::PAGE,
-        Source::Memory => {
-            n == 0 || Geometry::is_range(s.pages, address, n)
-        }
+        Source::Memory => { n == 0 || Geometry::is_range(s.pages, address, n) }
     }
 }
 
@@ -32,9 +30,7 @@ fn source_reached(s: State, v: u8, k: usize, source: Source, address: usize, n: 
 {
     match source {
         Source::Payload => true,
-        Source::Memory => {
-            n == 0 || pages::is_own(v, k)
-        }
+        Source::Memory => { n == 0 || pages::is_own(v, k) }
     }
 }
 
