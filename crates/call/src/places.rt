@@ -52,7 +52,7 @@ pub fn param_of(f: &Fields) -> usize
     ensures { result ≡ param_of f.now }
 {
     for x in &f.runs[..f.r] {
-        if x.kind == 4 {
+        if x.is_param() {
             return x.first as usize;
         }
     }

@@ -3,7 +3,9 @@
 
 ghost use Rattle.std.specs.Prelude.{◌≡◌, [], ◌∷◌};
 ghost use Rattle.fields.specs.Fields.{run_places, entry_places};
+ghost use Rattle.fields.specs.Rules.{is_code, is_param};
 
+// The kind is a byte and no enum: C's struct monitor_run (host/monitor.h), where a caller may hand over any byte.
 #[repr(C)]
 #[derive(Clone, Copy)]
 pub struct Run {
@@ -30,15 +32,32 @@ pub struct Fields {
     pub entries: [Entry; Fields::ENTRIES],
 }
 
-// What an unused place holds.
 impl Run {
+    pub const CODE: u8 = 1;
+
+    pub const PARAM: u8 = 4;
+
+    // What an unused place holds.
     pub const NONE: Run = Run {
         kind: 0,
         count: 0,
         first: 0,
     };
+
+    pub fn is_code(self) -> bool
+        ensures { result ≡ is_code self }
+    {
+        self.kind == Run::CODE
+    }
+
+    pub fn is_param(self) -> bool
+        ensures { result ≡ is_param self }
+    {
+        self.kind == Run::PARAM
+    }
 }
 
+// What an unused place holds.
 impl Entry {
     pub const NONE: Entry = Entry {
         address: 0,

@@ -72,18 +72,18 @@ runs_none f = record {
   pages_is = sum_none (param_pages_at f);
 }
 
-pub runs_step : (f : Fields) (i : ℕ) (each rise : Bool) (at held : ℕ) (code : Bool) (params pages : ℕ) (t : Bool) (end p q : ℕ)
+pub runs_step : (f : Fields) (i : ℕ) (each rise : Bool) (at held : ℕ) (code : Bool) (params pages : ℕ) (t : Bool) (end : ℕ) (s : Bool) (p q : ℕ)
     → Runs f i each rise at held code params pages
-    → t ≡ run_right_at f i → end ≡ end_of (run_at f i) → p ≡ param_at f i → q ≡ param_pages_at f i
-    → Runs f (i + 1) (each && t) (rise && leb at (run_at f i).first) end (held + count_at f i) (code || code_at f i) (params + p) (pages + q)
-runs_step f i each rise at held code params pages t end p q h e1 e2 e3 e4 = record {
+    → t ≡ run_right_at f i → end ≡ end_of (run_at f i) → s ≡ code_at f i → p ≡ param_at f i → q ≡ param_pages_at f i
+    → Runs f (i + 1) (each && t) (rise && leb at (run_at f i).first) end (held + count_at f i) (code || s) (params + p) (pages + q)
+runs_step f i each rise at held code params pages t end s p q h e1 e2 e3 e4 e5 = record {
   each_is = all_step (run_right_at f) i each t h.each_is e1;
   rise_is = chain_step (rises_at f) i rise (leb at (run_at f i).first) h.rise_is (ap (λ (n : ℕ). leb n (run_at f i).first) h.at_is ∙ rises f i);
   at_is = rw add-one e2;
   held_is = sum_more (count_at f) i held h.held_is;
-  code_is = any_step (code_at f) i code (code_at f i) h.code_is refl;
-  params_is = ap (λ (n : ℕ). params + n) e3 ∙ sum_more (param_at f) i params h.params_is;
-  pages_is = ap (λ (n : ℕ). pages + n) e4 ∙ sum_more (param_pages_at f) i pages h.pages_is;
+  code_is = any_step (code_at f) i code s h.code_is e3;
+  params_is = ap (λ (n : ℕ). params + n) e4 ∙ sum_more (param_at f) i params h.params_is;
+  pages_is = ap (λ (n : ℕ). pages + n) e5 ∙ sum_more (param_pages_at f) i pages h.pages_is;
 }
 
 pub runs_end : (f : Fields) (i : ℕ) (each rise : Bool) (at held : ℕ) (code : Bool) (params pages : ℕ) → i ≤ f.r → f.r ≤ i

@@ -18,6 +18,8 @@ pub fn counts_right(r: usize, e: usize) -> bool
 }
 
 // ---- runs
+
+// 1 code, 2 data, 3 stack, 4 param: document 01's form, a match by a range.
 fn known_kind(kind: u8) -> bool
     ensures { result ≡ leb 1 kind && leb kind 4 }
 {
@@ -45,7 +47,7 @@ pub fn run_right(x: Run) -> bool
 fn if_param(x: Run, n: usize) -> usize
     ensures { (result ≡ pick (is_param x) n 0) × (result ≤ n) }
 {
-    if x.kind == 4 {
+    if x.is_param() {
         return n;
     }
     0
@@ -68,7 +70,7 @@ fn runs_right(f: &Fields) -> bool
         rise &= at <= x.first as usize;
         at = run_end(*x);
         held += x.count as usize;
-        code |= x.kind == 1;
+        code |= x.is_code();
         params += if_param(*x, 1);
         pages += if_param(*x, x.count as usize);
     }
@@ -81,7 +83,7 @@ fn code_holds(x: Run, page: usize) -> bool
     ensures { result ≡ is_code x && holds x page }
 {
     let end = run_end(x);
-    (x.kind == 1) & ((x.first as usize <= page) & (page < end))
+    x.is_code() & ((x.first as usize <= page) & (page < end))
 }
 
 // Whether ok holds and the page is in a code run: the one search of the two below, which goes no further than the run that has the page. It counts

@@ -20,6 +20,8 @@ use Rattle.sha_1.specs.contracts.taken as sha1_taken
 use Rattle.sha_1.specs.contracts.finished as sha1_finished
 use Rattle.sha_1.specs.contracts.hash as sha1_hash
 use Rattle.sha_1.specs.contracts.hash_pair as sha1_hash_pair
+use Rattle.fields.specs.contracts.Run.is_code as fields_is_code
+use Rattle.fields.specs.contracts.Run.is_param as fields_is_param
 use Rattle.fields.specs.contracts.Fields.places as fields_places
 use Rattle.keeps.specs.contracts.counts_right as keeps_counts_right
 use Rattle.keeps.specs.contracts.run_end as keeps_run_end
@@ -70,6 +72,8 @@ pub record Parts : Type 0 where
   pub sha1_finished_one : OneOutcome sha1_finished.ended (λ κs a z e. told ((sha1_finished.clauses w₀.𝓛 w₀.𝓜.mem w₀.𝓡.run κs a).ensures tt z e) (r_last _))
   pub sha1_hash_one : OneOutcome sha1_hash.ended (λ κs a z e. told ((sha1_hash.clauses w₀.𝓛 w₀.𝓜.mem w₀.𝓡.run κs a).ensures tt z e) (r_last _))
   pub sha1_hash_pair_one : OneOutcome sha1_hash_pair.ended (λ κs a z e. told ((sha1_hash_pair.clauses w₀.𝓛 w₀.𝓜.mem w₀.𝓡.run κs a).ensures tt z e) (r_last _))
+  pub fields_is_code_one : OneOutcome fields_is_code.ended (λ κs a z e. told ((fields_is_code.clauses w₀.𝓛 w₀.𝓜.mem w₀.𝓡.run κs a).ensures tt z e) (r_last _))
+  pub fields_is_param_one : OneOutcome fields_is_param.ended (λ κs a z e. told ((fields_is_param.clauses w₀.𝓛 w₀.𝓜.mem w₀.𝓡.run κs a).ensures tt z e) (r_last _))
   pub fields_places_one : OneOutcome fields_places.ended (λ κs a z e. told ((fields_places.clauses w₀.𝓛 w₀.𝓜.mem w₀.𝓡.run κs a).ensures tt z e) (r_last _))
   pub keeps_counts_right_one : OneOutcome keeps_counts_right.ended (λ κs a z e. told ((keeps_counts_right.clauses w₀.𝓛 w₀.𝓜.mem w₀.𝓡.run κs a).ensures tt z e) (r_last _))
   pub keeps_run_end_one : OneOutcome keeps_run_end.ended (λ κs a z e. told ((keeps_run_end.clauses w₀.𝓛 w₀.𝓜.mem w₀.𝓡.run κs a).ensures tt z e) (r_last _))

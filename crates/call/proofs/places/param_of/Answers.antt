@@ -1,6 +1,5 @@
 use Prim.Native.Nat.{ℕ, ◌<◌}
 use native.Mathlib.Omega.{arith}
-use borrow.Author.Tests.{eq-eqb, ne_eqb}
 use mathlib.Core.Path.{◌≡◌, sym, ap, ◌∙◌}
 use lib.ListN.{get_or, take, length-take}
 use lib.Seq.{get_or-take}
@@ -8,6 +7,7 @@ use Rattle.lists.proofs.First.{first_none, first_more}
 use Rattle.fields.specs.declared.Fields.{Fields}
 use Rattle.fields.specs.declared.Run.{Run}
 use Rattle.fields.specs.Fields.{no_run, run_at}
+use Rattle.fields.specs.Rules.{is_param}
 use Rattle.fields.specs.Pages.{is_param_at}
 use Rattle.call.proofs.Entries.{param_hit, param_none}
 use Rattle.call.proofs.places.param_of.Goals as goal
@@ -24,14 +24,14 @@ loop-x-preserved c =
     let f = c.args.f.now in
     let i = c.loop-x.x-index in
     let h : i < f.r = omega (arith, length-take f.r f.runs) in
-    first_more (is_param_at f) i c.loop-x.invariant (ne_eqb (run_at f i).kind 4 (λ q. c.if-x-eq4.false (ap (λ (x : Run). x.kind) (in_use f i h) ∙ q)))
+    first_more (is_param_at f) i c.loop-x.invariant (ap is_param (sym (in_use f i h)) ∙ sym c.is_param.ensures ∙ c.if-is_param.false)
 
-pub returns-then-x-eq4 : goal.returns-then-x-eq4
-returns-then-x-eq4 c =
+pub returns-then-is_param : goal.returns-then-is_param
+returns-then-is_param c =
     let f = c.args.f.now in
     let i = c.loop-x.x-index in
     let h : i < f.r = omega (arith, length-take f.r f.runs) in
-    ap (λ (x : Run). x.first) (in_use f i h) ∙ param_hit f i h c.loop-x.invariant (eq-eqb (run_at f i).kind 4 (ap (λ (x : Run). x.kind) (sym (in_use f i h)) ∙ c.if-x-eq4.true))
+    ap (λ (x : Run). x.first) (in_use f i h) ∙ param_hit f i h c.loop-x.invariant (ap is_param (sym (in_use f i h)) ∙ sym c.is_param.ensures ∙ c.if-is_param.true)
 
 pub unreachable-requires : goal.unreachable-requires
 unreachable-requires c =
