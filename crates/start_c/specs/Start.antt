@@ -4,7 +4,12 @@ use Rattle.events.specs.Refusals.{told_as}
 use Rattle.start.specs.declared.Started.{Started}
 use Rattle.start.specs.Start.{start_of}
 use Rattle.twin.specs.Twin.{shut_of}
-use Rattle.start_c.specs.declared.Begun.{Begun}
+use Rattle.twin.specs.declared.Monitor.{Monitor}
+
+-- a state, and 0 or the refusal
+pub record Begun : Type 0 where
+  pub monitor : Monitor
+  pub number : ℕ
 
 abbrev pub begun : Started → Begun
 begun s = record { monitor = shut_of s.state; number = told_as s.refusal }

@@ -6,30 +6,11 @@ ghost use Rattle.start_c.specs.Start.{host_start};
 
 use twin::Monitor;
 
-// What start gives: a state, and 0 or the refusal.
-#[derive(Clone, Copy)]
-pub struct Begun {
-    pub monitor: Monitor,
-    pub number: u8,
-}
-
-fn started(pages: usize, kept: usize) -> Begun
-    ensures { result ≡ host_start pages kept }
-{
-    let s = start::start(pages, kept);
-    let number = s.refusal.map_or(0, u8::from);
-    Begun {
-        monitor: Monitor::from(s.state),
-        number,
-    }
-}
-
 // Start: the fresh state, or 4 and the all-zero state.
 pub fn monitor_start(m: &mut Monitor, pages: usize, kept: usize) -> u8
     ensures { (result ≡ (host_start pages kept).number) × (m.new ≡ (host_start pages kept).monitor) }
 {
-    let o = started(pages, kept);
-    let t = o.monitor;
-    *m = t;
-    o.number
+    let s = start::start(pages, kept);
+    *m = Monitor::from(s.state);
+    s.refusal.map_or(0, u8::from)
 }
