@@ -33,8 +33,8 @@ pub fn zero_page(memory: &mut [u8], page: usize)
     zero_bytes(memory, page * Geometry::PAGE, Geometry::PAGE);
 }
 
-// n bytes, at most a page's worth, go from one place of memory to another, also where the two overlap. They go by way of an array, since the library
-// has no copy_within and one slice is lent once: LLVM makes one memmove of the two copies, and no array.
+// n bytes, at most a page's worth, go from one place of memory to another, also where the two overlap. They go by way of an array, of which LLVM makes one
+// memmove and no array: the library's copy_within proves too, but is a loop byte by byte, 2.86 times as slow as memmove (docs/SPEED.md asks at most 1.2).
 pub fn move_bytes(memory: &mut [u8], from: usize, to: usize, n: usize)
     requires { (from + n ≤ length memory.old) × ((to + n ≤ length memory.old) × (n ≤ page_size)) }
     ensures { memory.new ≡ sets memory.old to (part memory.old from n) }
