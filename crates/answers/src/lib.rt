@@ -13,7 +13,7 @@ use geometry::Geometry;
 // The most characters of an answer's text, its newline too.
 pub const LONGEST_TEXT: usize = 8197;
 
-// A word and the end of the line.
+// A word and the end of the line. Not by `write!`: of one that fails the library says nothing, and then no text could be promised.
 fn say_word(text: &mut [u8], word: &[u8]) -> usize
     requires { (length word.now + 1 ≤ length text.old) × (length word.now ≤ most_shown) }
     ensures { (text.new ≡ sets text.old 0 (ended word.now)) × (result ≡ length (ended word.now)) }

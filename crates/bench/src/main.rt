@@ -15,7 +15,7 @@ const BLOCK: usize = 65536;
 // Of an answer.
 const ANSWER: usize = 4096;
 
-// The part of the block that waits to be heard, and whether there may be more to read.
+// The part of the block that waits to be heard, and whether there may be more to read: both are known always.
 #[derive(Clone, Copy)]
 struct Part {
     at: usize,

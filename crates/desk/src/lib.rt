@@ -59,6 +59,7 @@ pub fn serve(
     let mut at = 0;
     let mut used = 0;
     let mut end = gather::line_end(text);
+    // No chain over the lines: how far it goes hangs on the room that the answers have left.
     while (end < text.len()) & (answers::LONGEST_TEXT <= out.len() - used) {
         let stepped = hear(&text[at..end], state, payload, memory, buffer);
         let answer = stepped.answer;
@@ -67,11 +68,7 @@ pub fn serve(
         at = end + 1;
         end = at + gather::line_end(&text[at..]);
     }
-    Desk {
-        state: state,
-        at: at,
-        used: used,
-    }
+    Desk { state, at, used }
 }
 
 // What is written is what the input as a whole is answered, however it is cut and read.

@@ -12,7 +12,7 @@ const NEWLINE: u8 = b'\n';
 // The most characters that are kept of a line that has not ended: one more than the most that are read.
 pub const MOST_KEPT: usize = 2001;
 
-// The place of the first newline, or the text's length.
+// The place of the first newline, or the text's length, which ends the line that has not ended.
 pub fn line_end(text: &[u8]) -> usize
     ensures { result ≡ line_end text.now }
 {
@@ -30,7 +30,7 @@ pub fn carry(block: &mut [u8], from: usize, to: usize) -> usize
     n
 }
 
-// Where the text in a block ends, and whether there may be more of it.
+// Where the text in a block ends, and whether there may be more of it: both are known always, so the flag is no Option's.
 #[derive(Clone, Copy)]
 pub struct Text {
     pub end: usize,
