@@ -9,34 +9,32 @@ ghost use Rattle.devicemap.specs.Map.{map_length, shut_in, byte_in, mapped, buff
 ghost use Rattle.devicemap.specs.Promise.{EachBit};
 
 use events::Refusal;
-use geometry::Geometry;
 use state::State;
 
-// A page's bit. From P on no page is open.
-fn shut(owner: &[u8; Geometry::MOST_PAGES], pages: usize, p: usize) -> u8
-    requires { pages ≤ most_pages }
-    ensures { (result ≡ shut_in owner.now pages p) × (result ≤ 1) }
+// A page's bit, by the owners of the P pages. From P on no page is open.
+fn shut(owner: &[u8], p: usize) -> u8
+    ensures { (result ≡ shut_in owner.now (length owner.now) p) × (result ≤ 1) }
 {
-    u8::from(pages <= p || owner[p] != 0)
+    u8::from(owner.len() <= p || owner[p] != 0)
 }
 
-fn map_byte(owner: &[u8; Geometry::MOST_PAGES], pages: usize, i: usize) -> u8
-    requires { (pages ≤ most_pages) × (i < map_length most_pages) }
-    ensures { result ≡ byte_in owner.now pages i }
+fn map_byte(owner: &[u8], i: usize) -> u8
+    requires { i < map_length most_pages }
+    ensures { result ≡ byte_in owner.now (length owner.now) i }
 {
     let mut bits: u8 = 0;
     for j in 0..8 {
-        bits |= shut(owner, pages, 8 * i + j) << j;
+        bits |= shut(owner, 8 * i + j) << j;
     }
     bits
 }
 
-fn fill(owner: &[u8; Geometry::MOST_PAGES], pages: usize, map: &mut [u8])
-    requires { (pages ≤ most_pages) × (length map.old ≤ map_length most_pages) }
-    ensures { map.new ≡ table (byte_in owner.now pages) (length map.old) }
+fn fill(owner: &[u8], map: &mut [u8])
+    requires { length map.old ≤ map_length most_pages }
+    ensures { map.new ≡ table (byte_in owner.now (length owner.now)) (length map.old) }
 {
     for (i, byte) in map.iter_mut().enumerate() {
-        *byte = map_byte(owner, pages, i);
+        *byte = map_byte(owner, i);
     }
 }
 
@@ -51,7 +49,7 @@ pub fn device_map(s: State, buffer: &mut [u8]) -> Result<usize, Refusal>
     if buffer.len() < n {
         return Err(Refusal::BufferShort);
     }
-    fill(&s.owner, s.pages, &mut buffer[..n]);
+    fill(&s.owner[..s.pages], &mut buffer[..n]);
     Ok(n)
 }
 

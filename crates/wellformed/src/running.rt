@@ -23,6 +23,7 @@ fn any_output(f: &Fields, n: usize) -> bool
     f.entries[..f.e].iter().any(|x| x.output as usize == n)
 }
 
+// The whole table and P: cut to the P pages, the part would have to be shown to fit where `compared` cuts it, and to say the same as the two do.
 fn out_right(owner: &[u8; Geometry::MOST_PAGES], pages: usize, a: usize, n: usize) -> bool
     requires { pages ≤ most_pages }
     ensures { result ≡ out_test owner.now pages a n }

@@ -1,4 +1,3 @@
-use Prim.Native.Nat.{◌<◌}
 use native.Mathlib.Omega.{arith}
 use mathlib.Core.Path.{◌≡◌, refl, ◌∙◌}
 use lib.ListN.{length}
@@ -13,11 +12,11 @@ pub loop-i-preserved : goal.loop-i-preserved
 loop-i-preserved c =
     let a = c.args in
     let l = c.loop-i in
-    rw (l.invariant, c.map_byte.ensures) (written_more (byte_in a.owner.now a.pages) a.map.now l.i (omega arith))
+    rw (l.invariant, c.map_byte.ensures) (written_more (byte_in a.owner.now (length a.owner.now)) a.map.now l.i (omega arith))
 
 pub returns : goal.returns
 returns c =
     let a = c.args in
     let q : c.loop-i.i ≡ length a.map.now = omega arith in
     let e = rw q at c.loop-i.invariant in
-    e ∙ written_all (byte_in a.owner.now a.pages) a.map.now (length a.map.now) refl
+    e ∙ written_all (byte_in a.owner.now (length a.owner.now)) a.map.now (length a.map.now) refl
