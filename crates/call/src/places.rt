@@ -46,7 +46,7 @@ pub fn slot_for(s: State, mark: u64, address: usize) -> Option<Sought>
     })
 }
 
-// The param page of fields that have one.
+// The param page of fields that have one. By `find` the answer would have to be unwrapped, and the proof to say twice which run it is.
 pub fn param_of(f: &Fields) -> usize
     requires { (f.now.r ≤ run_places) × (any_below f.now.r (is_param_at f.now) ≡ true) }
     ensures { result ≡ param_of f.now }

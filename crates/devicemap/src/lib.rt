@@ -23,6 +23,7 @@ fn map_byte(owner: &[u8], i: usize) -> u8
     ensures { result ≡ byte_in owner.now (length owner.now) i }
 {
     let mut bits: u8 = 0;
+    // By bits, with shifts and a mask: document 01's form.
     for j in 0..8 {
         bits |= shut(owner, 8 * i + j) << j;
     }

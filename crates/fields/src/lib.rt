@@ -22,7 +22,8 @@ pub struct Entry {
     pub output: u16,
 }
 
-// r runs and e entries are in use, from the front on; the unused places are zero.
+// r runs and e entries are in use, from the front on; the unused places are zero. C lays them out so (host/monitor.h), an array with a length beside. Those in
+// use are `f.runs[..f.r]`: a method for them would ask the same bound, and say no more than the slice does.
 #[repr(C)]
 #[derive(Clone, Copy)]
 pub struct Fields {

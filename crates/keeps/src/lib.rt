@@ -17,7 +17,7 @@ pub fn counts_right(r: usize, e: usize) -> bool
     ((2 <= r) & (r <= Fields::RUNS)) & ((1 <= e) & (e <= Fields::ENTRIES))
 }
 
-// ---- runs
+// ---- runs. Those below ask that r and e are within the places: `counts_right` has it, and a type for it would be made in that one test alone.
 
 // 1 code, 2 data, 3 stack, 4 param: document 01's form, a match by a range.
 fn known_kind(kind: u8) -> bool

@@ -122,13 +122,10 @@ fn event_of(v: Verb, x: Arguments) -> Event
     let c = x.third as usize;
     let d = x.fourth as usize;
     match v {
-        Verb::Reg => Event::Register { mark: mark },
-        Verb::Unr => Event::Unregister {
-            mark: mark,
-            slot: b,
-        },
+        Verb::Reg => Event::Register { mark },
+        Verb::Unr => Event::Unregister { mark, slot: b },
         Verb::Call => Event::Call {
-            mark: mark,
+            mark,
             address: b,
             input: c,
             output: d,
@@ -191,7 +188,7 @@ pub struct Said {
 // "A line over 2,000 characters .. is `no 11`"
 pub const LONGEST_LINE: usize = 2000;
 
-// Room for any payload: two characters a byte.
+// Room for any payload: two characters a byte. Who lends it may lend more: an array of just this length in the type would ask more of callers.
 pub const PAYLOAD_ROOM: usize = 1000;
 
 // One line, without its newline, to what it says; the payload goes to the front of a lent slice, which a thousand bytes are enough for.

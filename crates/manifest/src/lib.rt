@@ -29,7 +29,8 @@ pub struct Counts {
     pub e: usize,
 }
 
-// 0 and the fields, or the number of the refusal and all zero. It stays a number beside the fields: C reads it (host/monitor.h).
+// 0 and the fields, or the number of the refusal and all zero. No Result: document 01 gives a refusal fields too, all zero (`refused_reading`, of which
+// the rules and `round` speak), and C reads it as it stands (host/monitor.h).
 #[repr(C)]
 #[derive(Clone, Copy)]
 pub struct Reading {
@@ -82,7 +83,7 @@ fn refused() -> Reading
     }
 }
 
-// The manifest, from the trailer backward. A loop for each kind of item: an Option cannot hold an array of them.
+// The manifest, from the trailer backward. A loop for each kind of item, so that each field's answer is taken apart here by let .. else: document 01's form.
 pub fn read(bytes: &[u8]) -> Reading
     ensures { result ≡ read_manifest bytes.now }
 {

@@ -9,7 +9,7 @@ ghost use Rattle.numerals.specs.Place.{place_of};
 
 use itoa::Buffer;
 
-// The first place of a character in a text, or the text's length: the answer is used as an end, so where there is none it is no None.
+// The first place of a character in a text, or the text's length: an end either way, by which `gather::line_end` and its definition cut.
 pub fn place_of(text: &[u8], c: u8) -> usize
     ensures { result ≡ place_of text.now c }
 {

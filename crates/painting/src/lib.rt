@@ -1,4 +1,5 @@
-// Tables of pages: painted with what runs say, and compared. Written so that a compiler makes fills and wide compares of the loops.
+// Tables of pages: painted with what runs say, and compared. Written so that a compiler makes fills and wide compares of it.
+// Four functions ask that the runs lie in the table (`RunsFit`): a type that holds it would ask more of fields than each of them does.
 #![tactic(auto)]
 
 ghost use Rattle.std.specs.Prelude.{◌≡◌, ℕ, ◌≤◌, ◌+◌, eqb};
@@ -36,6 +37,7 @@ pub fn same(a: &[u8; Geometry::MOST_PAGES], b: &[u8; Geometry::MOST_PAGES]) -> b
     ensures { result ≡ all_below most_pages (alike a.now b.now) }
 {
     let mut bad: u8 = 0; // gathered and asked once, as above: `==` stops at the first byte that differs
+    // By place and no `zip`: the invariant is of the places below p.
     for p in 0..Geometry::MOST_PAGES {
         bad |= a[p] ^ b[p];
     }
@@ -48,6 +50,7 @@ pub fn runs_owned(o: &[u8; Geometry::MOST_PAGES], f: &Fields, v: u8) -> bool
     requires { RunsFit f.now }
     ensures { result ≡ all_below f.now.r (owned_run o.now f.now.runs v) }
 {
+    // No `all`: what `run_owned` asks of a run, the closure would have to ask too.
     let mut ok = true;
     for x in &f.runs[..f.r] {
         ok &= run_owned(o, x.first as usize, x.count as usize, v);

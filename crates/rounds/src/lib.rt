@@ -103,6 +103,7 @@ fn schedule(b: &[u8]) -> [u32; ROUNDS]
     ensures { result ≡ Rounds.schedule b.now Rounds.later_words }
 {
     let mut w = [0u32; ROUNDS];
+    // By place, as the definition of a block's words has it.
     for t in 0..FIRST {
         w[t] = blocks::word(b, t * blocks::WORD);
     }

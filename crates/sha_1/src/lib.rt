@@ -102,7 +102,7 @@ pub fn hash(part: &[u8]) -> Digest
 pub fn hash_pair(x: Digest, y: Digest) -> Digest
     ensures { result.bytes ≡ Sha1.sha1 (x.bytes ++ y.bytes) }
 {
-    // An element of an array literal may be no field yet.
+    // A field that is an array may not be an element of an array literal yet.
     let (p, q) = (x.bytes, y.bytes);
     hash([p, q].as_flattened())
 }

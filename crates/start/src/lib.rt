@@ -35,7 +35,7 @@ fn bare_state(p: usize, m: usize, owner: [u8; Geometry::MOST_PAGES]) -> State
     State {
         pages: p,
         kept: m,
-        owner: owner,
+        owner,
         slots: [free; Geometry::SLOTS],
         mode: Mode::Legacy,
         running: Running::NONE,

@@ -16,6 +16,7 @@ pub fn is_open(pages: usize, v: u8, page: usize) -> bool
     page < pages && v == 0
 }
 
+// That k is below 8 stands in each contract that needs it: a mode and an event hold any number, and a type for those below 8 would be made of it at each use.
 pub fn is_own(v: u8, k: usize) -> bool
     requires { k < slot_count }
     ensures { result ≡ eqb v (k + 1) }

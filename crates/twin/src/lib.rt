@@ -71,7 +71,7 @@ pub fn number_of(m: Mode) -> usize
 impl From<Monitor> for State {
     ghost from_gives = { λ m s. s ≡ opened_of m };
 
-    // An array goes by a variable of its own: the prover covers no copy from field to field.
+    // An array goes by a variable of its own: the prover covers no copy of one from field to field.
     fn from(m: Monitor) -> State {
         let owner = m.owner;
         let slots = m.slots;
