@@ -18,6 +18,8 @@ use Rattle.touch.specs.declared.pages.Access.TheVariants.{Read, Write, Device}
 
 -- ---- what the code has of the state: the owner of a page, slot k, the slot that runs
 -- Each event asks for those that it looks at (docs/PROMISES.md, "What inner functions ask"). No struct holds them as its invariant: it would ask all of every event.
+-- Nor does one hold state and memory with `well_formed` as its invariant: by value it is not covered where a branch writes memory, and by `&mut` each event
+-- that writes memory owes a clause in place of the premise, that memory's reference is the same. Tried on read, write and dispatch.
 
 abbrev pub Owned : State → ℕ → ℕ → Type 0
 Owned s p v = v ≡ get_or s.owner p 0
