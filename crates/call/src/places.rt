@@ -14,17 +14,21 @@ use geometry::Geometry;
 use state::{Slot, State};
 
 // The slot is registered under the mark, and has an entry at the address.
-fn callable(slot: Slot, mark: u64, address: usize) -> bool
-    ensures { result ≡ callable_in slot.card mark address }
+#[tactic(auto, unfolding(state::specs::Slots::entry_found))]
+fn callable(slot: &Slot, mark: u64, address: usize) -> bool
+    ensures { result ≡ callable_in slot.now.card mark address }
 {
-    slot.card.registered && slot.card.mark == mark && slot.entry_found(address).is_some()
+    let fields = &slot.card.fields;
+    slot.card.registered
+        && slot.card.mark == mark
+        && state::first_at(&fields.entries, fields.e, address).is_some()
 }
 
 // The place of the first such slot.
 fn place_for(slots: &[Slot; Geometry::SLOTS], mark: u64, address: usize) -> Option<usize>
     ensures { result ≡ position (λ x. callable_in x.card mark address) slots.now }
 {
-    slots.iter().position(|slot| callable(*slot, mark, address))
+    slots.iter().position(|slot| callable(slot, mark, address))
 }
 
 // A slot and its number.

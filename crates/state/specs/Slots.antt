@@ -18,8 +18,11 @@ abbrev pub entry_in : Fields → ℕ → Option Entry
 entry_in f k = pick (ltb k entry_places) (Some (entry_at f k)) None
 
 -- the entry in use that has the address
+abbrev pub entry_within : Fields → ℕ → Option Entry
+entry_within f a = entry_in f (first_below (begins_at f a) entry_places)
+
 unfoldable pub entry_found : Card → ℕ → Option Entry
-entry_found x a = entry_in x.fields (first_below (begins_at x.fields a) entry_places)
+entry_found x a = entry_within x.fields a
 
 -- "µPCR new = SHA-1(old, ..)"
 abbrev pub extended_pcr : Digest → Digest → Digest

@@ -1,10 +1,11 @@
 // The monitor's state, by value (document 01, "Machine and numbers").
 #![tactic(auto)]
 
-ghost use Rattle.std.specs.Prelude.{◌≡◌, ◌<◌, ◌==◌, find, take};
+ghost use Rattle.std.specs.Prelude.{◌≡◌, ◌<◌, ◌==◌, [], find, take};
 ghost use Rattle.state.specs.Zero.{zero_slot};
 ghost use Rattle.geometry.specs.Geometry.{pcr_count};
-ghost use Rattle.state.specs.Slots.{entry_found, extended_slot};
+ghost use Rattle.fields.specs.Fields.{fields_of};
+ghost use Rattle.state.specs.Slots.{entry_found, entry_within, extended_slot};
 
 use fields::{Entry, Fields};
 use geometry::Geometry;
@@ -102,17 +103,23 @@ impl Slot {
     pub fn entry_found(self, address: usize) -> Option<Entry>
         ensures { result ≡ entry_found self.card address }
     {
-        first_at(&self.card.fields, address)
+        first_at(&self.card.fields.entries, self.card.fields.e, address)
     }
 }
 
-fn first_at(fields: &Fields, address: usize) -> Option<Entry>
-    ensures { result ≡ find (λ x. x.address == address) (take fields.now.e fields.now.entries) }
+// The same of entries that are lent, of which the first e are in use: so a slot that is looked through is not copied.
+pub fn first_at(entries: &[Entry; Fields::ENTRIES], e: usize, address: usize) -> Option<Entry>
+    ensures { result ≡ entry_within (fields_of 0 e [] entries.now) address }
 {
-    fields
-        .entries
+    among(entries, e, address)
+}
+
+fn among(entries: &[Entry], e: usize, address: usize) -> Option<Entry>
+    ensures { result ≡ find (λ x. x.address == address) (take e entries.now) }
+{
+    entries
         .iter()
-        .take(fields.e)
+        .take(e)
         .copied()
         .find(|x| x.address as usize == address)
 }

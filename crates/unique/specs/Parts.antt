@@ -40,6 +40,7 @@ use Rattle.state.specs.contracts.Slot.zero as state_zero
 use Rattle.state.specs.contracts.Slot.cleared as state_cleared
 use Rattle.state.specs.contracts.Slot.extended as state_extended
 use Rattle.state.specs.contracts.Slot.entry_found as state_entry_found
+use Rattle.state.specs.contracts.first_at as state_first_at
 use Rattle.wellformed.specs.contracts.sizes_right as wellformed_sizes_right
 use Rattle.wellformed.specs.contracts.seen_in as wellformed_seen_in
 use Rattle.wellformed.specs.contracts.seen as wellformed_seen
@@ -92,6 +93,7 @@ pub record Parts : Type 0 where
   pub state_cleared_one : OneOutcome state_cleared.ended (λ κs a z e. told ((state_cleared.clauses w₀.𝓛 w₀.𝓜.mem w₀.𝓡.run κs a).ensures tt z e) (r_last _))
   pub state_extended_one : OneOutcome state_extended.ended (λ κs a z e. told ((state_extended.clauses w₀.𝓛 w₀.𝓜.mem w₀.𝓡.run κs a).ensures tt z e) (r_last _))
   pub state_entry_found_one : OneOutcome state_entry_found.ended (λ κs a z e. told ((state_entry_found.clauses w₀.𝓛 w₀.𝓜.mem w₀.𝓡.run κs a).ensures tt z e) (r_last _))
+  pub state_first_at_one : OneOutcome state_first_at.ended (λ κs a z e. told ((state_first_at.clauses w₀.𝓛 w₀.𝓜.mem w₀.𝓡.run κs a).ensures tt z e) (r_last _))
   pub wellformed_sizes_right_one : OneOutcome wellformed_sizes_right.ended (λ κs a z e. told ((wellformed_sizes_right.clauses w₀.𝓛 w₀.𝓜.mem w₀.𝓡.run κs a).ensures tt z e) (r_last _))
   pub wellformed_seen_in_one : OneOutcome wellformed_seen_in.ended (λ κs a z e. told ((wellformed_seen_in.clauses w₀.𝓛 w₀.𝓜.mem w₀.𝓡.run κs a).ensures tt z e) (r_last _))
   pub wellformed_seen_one : OneOutcome wellformed_seen.ended (λ κs a z e. told ((wellformed_seen.clauses w₀.𝓛 w₀.𝓜.mem w₀.𝓡.run κs a).ensures tt z e) (r_last _))

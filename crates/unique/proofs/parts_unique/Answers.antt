@@ -45,6 +45,7 @@ returns c = record {
   state_cleared_one = λ κs a z z' w w'. result;
   state_extended_one = λ κs a z z' w w'. result;
   state_entry_found_one = λ κs a z z' w w'. result;
+  state_first_at_one = λ κs a z z' w w'. result;
   wellformed_sizes_right_one = λ κs a z z' w w'. result;
   wellformed_seen_in_one = λ κs a z z' w w'. result;
   wellformed_seen_one = λ κs a z z' w w'. result;
