@@ -2,8 +2,7 @@
 #![tactic(auto)]
 
 ghost use Rattle.std.specs.Prelude.{◌≡◌};
-ghost use Rattle.state.specs.Zero.{zero_running};
-ghost use Rattle.switch.specs.Record.{entered_record};
+ghost use Rattle.switch.specs.Record.{entered_record, left_of};
 ghost use Rattle.manifest.specs.Reader.{read_manifest};
 ghost use Rattle.twin.specs.Asked.{answered};
 ghost use Rattle.host.specs.Host.{hosted, host_step};
@@ -45,7 +44,7 @@ pub extern "C" fn monitor_enter(running: &mut Running, slot: usize, out: usize, 
 
 #[unsafe(no_mangle)]
 pub extern "C" fn monitor_leave(running: &mut Running) -> Running
-    ensures { (result ≡ running.old) × (running.new ≡ zero_running) }
+    ensures { (result ≡ (left_of running.old).was) × (running.new ≡ (left_of running.old).rest) }
 {
     switch::monitor_leave(running)
 }

@@ -2,9 +2,8 @@
 #![tactic(auto)]
 
 ghost use Rattle.std.specs.Prelude.{◌≡◌};
-ghost use Rattle.state.specs.Zero.{zero_running};
 ghost use Rattle.rules.specs.Tests.{kept_as};
-ghost use Rattle.switch.specs.Record.{entered_record, CallEnters, ReturnLeaves};
+ghost use Rattle.switch.specs.Record.{entered_record, left_of, CallEnters, ReturnLeaves};
 
 use state::Running;
 use std::mem;
@@ -29,7 +28,7 @@ pub fn monitor_enter(running: &mut Running, slot: usize, out: usize, length: usi
 
 // Leaving: the caller has the record as it was, and the lent one is zero.
 pub fn monitor_leave(running: &mut Running) -> Running
-    ensures { (result ≡ running.old) × (running.new ≡ zero_running) }
+    ensures { (result ≡ (left_of running.old).was) × (running.new ≡ (left_of running.old).rest) }
 {
     mem::replace(running, Running::NONE)
 }
