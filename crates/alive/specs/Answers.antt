@@ -1,5 +1,5 @@
 -- The rules are alive: each of the eleven events is accepted, and each number for no is given, with slots registered.
-use Rattle.std.specs.Prelude.{ℕ, List, [], ◌∷◌}
+use Rattle.std.specs.Prelude.{ℕ, List, [], ◌∷◌, Option, Some, None}
 use Rattle.geometry.specs.Geometry.{page_size}
 use Rattle.memory.specs.declared.Source.TheVariants.{Payload, Memory}
 use Rattle.manifest.specs.declared.Reading.{Reading}
@@ -10,7 +10,8 @@ use Rattle.events.specs.declared.Event.{Event}
 use Rattle.events.specs.declared.Event.TheVariants.{Register, Unregister, Call, Return, Jump, Read, Write, DeviceRead, DeviceWrite, Extend, PcrRead}
 use Rattle.events.specs.declared.Answer.{Answer}
 use Rattle.events.specs.declared.Answer.TheVariants.{Done, Slot, Entered, Left, Terminated, Filled, Refused}
-use Rattle.events.specs.declared.Refusal.TheVariants.{NotWellFormed, NotInThisMode, RuleBroken, OutOfRange, NotReached, NotOpen, NoFreeSlot, NotFound, BufferShort, NoSuchPcr}
+use Rattle.events.specs.declared.Refusal.{Refusal}
+use Rattle.events.specs.Refusals.{refusal_of}
 use Rattle.alive.specs.Rows.{answered, Row}
 use Rattle.rules.specs.Act.{zero_pcrs}
 use Rattle.alive.specs.States.{fresh, fields_from, idle, called, full}
@@ -63,33 +64,42 @@ accepted =
 abbrev pub on_room : State → ℕ → Event → Answer → Row
 on_room s n e a = record { gives = answered s n 4 unread e; says = a }
 
+-- no, where a refusal is named
+abbrev pub told_no : Option Refusal → Answer
+told_no (Some r) = Refused r
+told_no None = Done
+
+-- no, by document 01's number, so that the table below says which number each refusal has
+abbrev pub no : ℕ → Answer
+no n = told_no (refusal_of n)
+
 unfoldable pub refused : List Row
 refused =
-    on zero_state (Jump 0) (Refused NotWellFormed)
-    ∷ on rests Return (Refused NotInThisMode)
-    ∷ on runs (Call 7 8192 100 200) (Refused NotInThisMode)
-    ∷ registers rests unread (Refused RuleBroken)
-    ∷ on rests (Call 7 8192 4095 200) (Refused OutOfRange)
-    ∷ on rests (Jump 32768) (Refused OutOfRange)
-    ∷ on rests (Call 7 8192 8192 200) (Refused NotReached)
-    ∷ on rests (Call 7 8192 100 12288) (Refused NotReached)
-    ∷ on rests (Jump 8192) (Refused NotReached)
-    ∷ on rests (Read 8192 1) (Refused NotReached)
-    ∷ on rests (DeviceWrite 12288) (Refused NotReached)
-    ∷ on runs (Write 8192) (Refused NotReached)
-    ∷ on runs (Read 100 1) (Refused NotReached)
-    ∷ on runs (DeviceRead 12288 1) (Refused NotReached)
-    ∷ on runs (Extend 1 Memory 100 4) (Refused NotReached)
-    ∷ registers rests (manifest_from 3) (Refused NotOpen)
-    ∷ registers rests (manifest_from 6) (Refused NotOpen)
-    ∷ registers full (manifest_from 16) (Refused NoFreeSlot)
-    ∷ on rests (Unregister 9 0) (Refused NotFound)
-    ∷ on rests (Unregister 7 1) (Refused NotFound)
-    ∷ on rests (Unregister 0 8) (Refused NotFound)
-    ∷ on rests (Call 7 8196 100 200) (Refused NotFound)
-    ∷ on rests (Call 9 8192 100 200) (Refused NotFound)
-    ∷ on_room rests 3 (Read 100 4) (Refused BufferShort)
-    ∷ on_room runs 19 (PcrRead 0) (Refused BufferShort)
-    ∷ on runs (PcrRead 8) (Refused NoSuchPcr)
-    ∷ on runs (Extend 8 Payload 0 0) (Refused NoSuchPcr)
+    on zero_state (Jump 0) (no 1)
+    ∷ on rests Return (no 2)
+    ∷ on runs (Call 7 8192 100 200) (no 2)
+    ∷ registers rests unread (no 3)
+    ∷ on rests (Call 7 8192 4095 200) (no 4)
+    ∷ on rests (Jump 32768) (no 4)
+    ∷ on rests (Call 7 8192 8192 200) (no 5)
+    ∷ on rests (Call 7 8192 100 12288) (no 5)
+    ∷ on rests (Jump 8192) (no 5)
+    ∷ on rests (Read 8192 1) (no 5)
+    ∷ on rests (DeviceWrite 12288) (no 5)
+    ∷ on runs (Write 8192) (no 5)
+    ∷ on runs (Read 100 1) (no 5)
+    ∷ on runs (DeviceRead 12288 1) (no 5)
+    ∷ on runs (Extend 1 Memory 100 4) (no 5)
+    ∷ registers rests (manifest_from 3) (no 6)
+    ∷ registers rests (manifest_from 6) (no 6)
+    ∷ registers full (manifest_from 16) (no 7)
+    ∷ on rests (Unregister 9 0) (no 8)
+    ∷ on rests (Unregister 7 1) (no 8)
+    ∷ on rests (Unregister 0 8) (no 8)
+    ∷ on rests (Call 7 8196 100 200) (no 8)
+    ∷ on rests (Call 9 8192 100 200) (no 8)
+    ∷ on_room rests 3 (Read 100 4) (no 9)
+    ∷ on_room runs 19 (PcrRead 0) (no 9)
+    ∷ on runs (PcrRead 8) (no 10)
+    ∷ on runs (Extend 8 Payload 0 0) (no 10)
     ∷ []
