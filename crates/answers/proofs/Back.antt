@@ -1,24 +1,59 @@
 -- Numbers and bytes are known from their text.
-use Prim.Native.Nat.{ℕ, suc, ◌+◌, ◌/◌, ◌%◌, ◌≤◌, ◌<◌, ◌^◌}
-use native.Mathlib.Nat.{div-add-mod'}
+use Prim.Native.Nat.{ℕ, zero, suc, ◌+◌, ◌*◌, ◌/◌, ◌%◌, ◌≤◌, ◌<◌, ◌^◌}
+use native.Mathlib.Nat.{pow-suc, div-add-mod'}
 use native.Mathlib.Omega.{arith}
 use mathlib.Core.Path.{◌≡◌, refl, sym, subst, ap, ◌∙◌}
 use mathlib.Core.Bool.{true, false}
 use mathlib.Core.Logic.{⊎_elim}
-use mathlib.Core.List.{List, [], ◌∷◌}
-use lib.ListN.{length, get_or, take, drop, get_or-eq_default, length-take}
-use lib.Seq.{get_or-take}
+use mathlib.Core.List.{List, [], ◌∷◌, ◌++◌}
+use lib.ListN.{length, get_or, take, drop, length-append, get_or-append, get_or-eq_default, length-take}
+use lib.Seq.{get_or-append_seam, get_or-take}
 use lib.Dec.{ltb}
 use borrow.Author.Tests.{ltb-true}
 use Rattle.lists.proofs.Logic.{decided, pick_true, pick_false, lt_or_ge}
-use Rattle.numerals.specs.Decimal.{decimal}
+use Rattle.numerals.specs.Decimal.{worth, value_of, digits, decimal}
 use Rattle.numerals.specs.Hex.{hex_digit, pairs}
-use Rattle.std.proofs.lemmas.Fmt.{decimal_injective}
-use Rattle.numerals.proofs.Writing.{decimal_is}
 
--- the library writes no two 64-bit numbers the same
+worth_back : (x : ℕ) → worth (48 + x) ≡ x
+worth_back x = omega arith
+
+-- the first n characters are read off the first list
+value_front : (l m : List ℕ) (n : ℕ) → n ≤ length l → value_of (l ++ m) n ≡ value_of l n
+unfolding value_of
+value_front l m zero h = refl
+value_front l m (suc n) h = rw (value_front l m n (omega arith), get_or-append l m 0 n (omega arith))
+
+value_snoc : (l : List ℕ) (c : ℕ) → value_of (l ++ (c ∷ [])) (length (l ++ (c ∷ []))) ≡ value_of l (length l) * 10 + worth c
+unfolding value_of
+value_snoc l c =
+    let n : length (l ++ (c ∷ [])) ≡ suc (length l) = omega (arith, length-append l (c ∷ [])) in
+    rw (n, value_front l (c ∷ []) (length l) (omega arith), get_or-append_seam l c [] 0)
+
+one_back : (x : ℕ) → value_of ((48 + x) ∷ []) 1 ≡ x
+unfolding value_of
+one_back x = rw (worth_back x) (omega arith)
+
+digits_back : (n x : ℕ) → x < 10 ^ suc n → value_of (digits n x) (length (digits n x)) ≡ x
+unfolding digits
+digits_back zero x h = one_back x
+digits_back (suc n) x h =
+    decided (ltb x 10)
+    (λ t.
+    let e : digits (suc n) x ≡ (48 + x) ∷ [] = pick_true _ _ _ t in
+    ap (λ (l : List ℕ). value_of l (length l)) e ∙ one_back x)
+    (λ t.
+    let e : digits (suc n) x ≡ digits n (x / 10) ++ ((48 + x % 10) ∷ []) = pick_false _ _ _ t in
+    let k : x / 10 < 10 ^ suc n = omega (arith, pow-suc 10 (suc n)) in
+    ap (λ (l : List ℕ). value_of l (length l)) e
+    ∙ (value_snoc (digits n (x / 10)) (48 + x % 10) ∙ rw (digits_back n (x / 10) k, worth_back (x % 10)) (div-add-mod' x 10)))
+
+-- a 64-bit number is the value of its digits
+pub decimal_back : (x : ℕ) → x < 2 ^ 64 → value_of (decimal x) (length (decimal x)) ≡ x
+unfolding decimal
+decimal_back x h = digits_back 19 x (omega arith)
+
 pub decimal_same : (x y : ℕ) → x < 2 ^ 64 → y < 2 ^ 64 → decimal x ≡ decimal y → x ≡ y
-decimal_same x y a b e = decimal_injective x y a b (decimal_is x a ∙ (e ∙ sym (decimal_is y b)))
+decimal_same x y a b e = sym (decimal_back x a) ∙ (ap (λ (l : List ℕ). value_of l (length l)) e ∙ decimal_back y b)
 
 -- ---- bytes
 
