@@ -1,6 +1,6 @@
 -- The machine's geometry (document 01, "Machine and numbers"). Each number stands here once, and once in `Geometry`'s constants, which `numbers` ties to these.
 use Rattle.std.specs.Prelude.{ℕ, ◌+◌, ◌*◌, ◌/◌, ◌%◌, Bool, ◌&&◌, leb, ltb}
-use Rattle.std.specs.declared.ops.Range.{Range}
+use Rattle.geometry.specs.declared.Span.{Span}
 
 -- "A page is 4,096 bytes."
 abbrev pub page_size : ℕ
@@ -39,7 +39,7 @@ abbrev pub start_of : ℕ → ℕ
 start_of p = p * page_size
 
 -- the bytes of page p
-abbrev pub bytes_of : ℕ → Range ℕ
+abbrev pub bytes_of : ℕ → Span
 bytes_of p = record { start = start_of p; end = start_of p + page_size }
 
 -- "A range is an address and a length of 1 to 4,096, all in one page and in memory", here of p pages

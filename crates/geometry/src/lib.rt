@@ -4,7 +4,12 @@
 ghost use Rattle.std.specs.Prelude.{◌≡◌, ◌≤◌, ◌<◌, [], ◌∷◌};
 ghost use Rattle.geometry.specs.Geometry.{page_size, least_pages, most_pages, slot_count, pcr_count, digest_size, most_held, half_page, page_of, start_of, bytes_of, is_range};
 
-use std::ops::Range;
+// The bytes of a page: from `start` up to, and without, `end`. It is no `Range`, which is no `Copy`.
+#[derive(Clone, Copy)]
+pub struct Span {
+    pub start: usize,
+    pub end: usize,
+}
 
 // A type for its constants alone.
 #[derive(Clone, Copy)]
@@ -57,12 +62,15 @@ impl Geometry {
     }
 
     // The bytes of a page.
-    pub fn bytes_of(page: usize) -> Range<usize>
+    pub fn bytes_of(page: usize) -> Span
         requires { page < most_pages }
         ensures { result ≡ bytes_of page }
     {
         let start = page * Geometry::PAGE;
-        start..start + Geometry::PAGE
+        Span {
+            start,
+            end: start + Geometry::PAGE,
+        }
     }
 
     // Whether n bytes from an address are a range of a memory of that many pages.
