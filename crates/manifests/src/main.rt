@@ -3,12 +3,25 @@
 #![tactic(auto)]
 
 use fields::Fields;
-use std::io::{self, Read, Write};
+use std::io::{Read, Write};
 
 const LONGEST: usize = manifest::ITEM * (Fields::RUNS + Fields::ENTRIES) + manifest::TRAILER;
 
 // A manifest, behind a byte with its length.
 const GIVEN: usize = 256;
+
+// Reads until the buffer is full; false where the input ends before that, or a read fails. Not by `read_exact`, which tries again where a signal broke off a read.
+fn filled<R: Read>(input: &mut R, buf: &mut [u8]) -> bool {
+    let mut done = 0;
+    while done < buf.len() {
+        let n = input.read(&mut buf[done..]).unwrap_or(0);
+        if n == 0 {
+            return false;
+        }
+        done += n;
+    }
+    true
+}
 
 fn again<W: Write>(output: &mut W, reading: manifest::Reading) {
     let fields = reading.fields;
@@ -17,17 +30,19 @@ fn again<W: Write>(output: &mut W, reading: manifest::Reading) {
     output.write_all(&buffer).is_ok();
 }
 
-// Reads one manifest and answers it; an error where the input ends before that, or reading fails.
-fn one<R: Read, W: Write>(input: &mut R, output: &mut W) -> io::Result<()> {
+// Reads one manifest and answers it; false where the input ends before that, or reading fails.
+fn one<R: Read, W: Write>(input: &mut R, output: &mut W) -> bool {
     let mut given = [0u8; GIVEN];
-    input.read_exact(&mut given)?;
+    if !filled(input, &mut given) {
+        return false;
+    }
     let n = usize::from(given[0]);
     let reading = manifest::read(&given[1..1 + n]);
     output.write_all(&[reading.refusal]).is_ok();
     if reading.refusal == 0 {
         again(output, reading);
     }
-    Ok(())
+    true
 }
 
 // A proved loop has to end, and nothing says that the input does: no run uses up so many turns.
@@ -35,7 +50,7 @@ fn main(rt: HostRuntime) {
     let mut input = rt.stdin();
     let mut output = rt.stdout();
     for _ in 0..u64::MAX {
-        if one(&mut input, &mut output).is_err() {
+        if !one(&mut input, &mut output) {
             break;
         }
     }

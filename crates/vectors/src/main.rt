@@ -24,11 +24,23 @@ struct Run {
     wrong: u64,
 }
 
+// Reads until the buffer is full; false where the input ends before that, or a read fails. Not by `read_exact`, which tries again where a signal broke off a read.
+fn filled<R: Read>(input: &mut R, buf: &mut [u8]) -> bool {
+    let mut done = 0;
+    while done < buf.len() {
+        let n = input.read(&mut buf[done..]).unwrap_or(0);
+        if n == 0 {
+            return false;
+        }
+        done += n;
+    }
+    true
+}
+
 // The next header; none where the input ends before it is whole, or reading fails.
 fn next_header<R: Read>(input: &mut R) -> Option<[u8; HEADER]> {
     let mut header = [0u8; HEADER];
-    input.read_exact(&mut header).ok()?;
-    Some(header)
+    filled(input, &mut header).then_some(header)
 }
 
 fn digest_in(header: &[u8; HEADER]) -> Digest {
@@ -81,7 +93,7 @@ impl Run {
     fn part<R: Read>(&mut self, input: &mut R, command: u8, n: u16) {
         let mut space = [0u8; MOST];
         let part = &mut space[..usize::from(n)];
-        input.read_exact(part).is_ok();
+        filled(input, part);
         match command {
             b't' => self.hashing = sha_1::taken(self.hashing, part),
             b'f' => {
