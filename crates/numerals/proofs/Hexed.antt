@@ -11,8 +11,9 @@ use lib.Seq.{sets, drop-cons, get_or-take, get_or-drop}
 use lib.Dec.{leb, eqb}
 use lib.Pointwise.{pointwise}
 use borrow.Author.Tests.{eqb-true, ne_eqb, le-leb, lt-leb}
-use Rattle.std.proofs.Common.{Option, Some}
-use Rattle.std.specs.Option.{is_some, IsSome, unwrap_or}
+use Rattle.std.proofs.Common.{Option}
+use Rattle.std.specs.Option.{unwrap_or}
+use Rattle.std.proofs.lemmas.Bool.Decides.{nat_tests}
 use Rattle.std.specs.List.{list_all}
 use Rattle.std.specs.Simd.{first_chunks}
 use Rattle.lists.specs.Below.{table}
@@ -71,20 +72,24 @@ chunk_at (suc n) (suc i) l k b h =
     let e : 2 + (i * 2 + k) ≡ suc i * 2 + k = omega arith in
     chunk_at n i (drop 2 l) k (omega arith) h ∙ (get_or-drop 2 l (i * 2 + k) 0 ∙ ap (λ (j : ℕ). get_or l j 0) e)
 
--- character k of pair i of a HEX field is a digit
+-- a digit is worth less than 16, and what is no digit is worth 0
+worth_low : (c x : ℕ) (r : Option ℕ) → r ≡ hex_value c → x ≡ unwrap_or r 0 → x < 16
+worth_low c x r e f = grind (arith, nat_tests)
+
+-- character k of pair i, and what it is worth
 module _ (l : List ℕ) (ps : List (List ℕ)) (i k : ℕ) (r : Option ℕ) (f : ps ≡ first_chunks 2 (length l / 2) l) (b : i < length l / 2) (h : k < 2) (e : r ≡ hex_value (get_or (get_or ps i []) k 0)) where
   pub pair_digit : r ≡ hex_value (get_or l (i * 2 + k) 0)
   pair_digit = e ∙ ap hex_value (ap (λ (p : List (List ℕ)). get_or (get_or p i []) k 0) f ∙ chunk_at (length l / 2) i l k b h)
 
-  pub pair_some : is_hex l ≡ true → IsSome r
-  pair_some x = ap is_some pair_digit ∙ hex_digit_at l (i * 2 + k) x (omega arith) (omega arith)
+  pub pair_low : (x : ℕ) → x ≡ unwrap_or r 0 → x < 16
+  pair_low x = worth_low (get_or l (i * 2 + k) 0) x r pair_digit
 
 -- the byte of two digits
-pub pair_byte : (l : List ℕ) (i h k : ℕ) (r s : Option ℕ) → r ≡ hex_value (get_or l (i * 2 + 0) 0) → s ≡ hex_value (get_or l (i * 2 + 1) 0) → r ≡ Some h → s ≡ Some k → h * 16 + k ≡ pair_at l i
+pub pair_byte : (l : List ℕ) (i h k : ℕ) (r s : Option ℕ) → r ≡ hex_value (get_or l (i * 2 + 0) 0) → s ≡ hex_value (get_or l (i * 2 + 1) 0) → h ≡ unwrap_or r 0 → k ≡ unwrap_or s 0 → h * 16 + k ≡ pair_at l i
 pair_byte l i h k r s a b e f =
     let z : i * 2 + 0 ≡ i * 2 = omega arith in
-    let p : h ≡ hex_worth (get_or l (i * 2) 0) = ap (λ (o : Option ℕ). unwrap_or o 0) (sym e ∙ a) ∙ ap (λ (j : ℕ). hex_worth (get_or l j 0)) z in
-    let q : k ≡ hex_worth (get_or l (i * 2 + 1) 0) = ap (λ (o : Option ℕ). unwrap_or o 0) (sym f ∙ b) in
+    let p : h ≡ hex_worth (get_or l (i * 2) 0) = e ∙ (ap (λ (o : Option ℕ). unwrap_or o 0) a ∙ ap (λ (j : ℕ). hex_worth (get_or l j 0)) z) in
+    let q : k ≡ hex_worth (get_or l (i * 2 + 1) 0) = f ∙ ap (λ (o : Option ℕ). unwrap_or o 0) b in
     omega arith
 
 -- a turn of the loop that puts the bytes of pairs

@@ -67,17 +67,22 @@ pub fn is_hex(text: &[u8]) -> bool
     if text == b"-".as_slice() {
         return true;
     }
-    2 <= text.len() && text.len() % 2 == 0 && text.iter().all(|c| hex_value(*c).is_some())
+    // To the end, also behind a character that is none: a loop that may leave at each character takes one at a time.
+    let mut right = true;
+    for c in text {
+        right &= hex_value(*c).is_some();
+    }
+    2 <= text.len() && text.len() % 2 == 0 && right
 }
 
-// The bytes of a HEX field go to the front of a lent slice.
+// The bytes of a HEX field go to the front of a lent slice. What is no digit, of which a HEX field has none, is worth 0: so no character asks for a branch.
 pub fn put_hex(text: &[u8], out: &mut [u8])
     requires { (is_hex text.now ≡ true) × (length text.now / 2 ≤ length out.old) }
     ensures { out.new ≡ sets out.old 0 (hex_bytes text.now) }
 {
     let (pairs, _) = text.as_chunks::<2>();
     for (i, [high, low]) in pairs.iter().enumerate() {
-        out[i] = hex_value(*high).unwrap() * 16 + hex_value(*low).unwrap();
+        out[i] = hex_value(*high).unwrap_or(0) * 16 + hex_value(*low).unwrap_or(0);
     }
 }
 
