@@ -55,7 +55,13 @@ fn trailer(bytes: &[u8]) -> Option<Counts>
         return None;
     }
     let t = n - TRAILER;
-    let fixed = bytes[t..t + 5] == FIXED[..];
+    let fixed = [
+        bytes[t],
+        bytes[t + 1],
+        bytes[t + 2],
+        bytes[t + 3],
+        bytes[t + 4],
+    ] == FIXED;
     let r = bytes[t + 5] as usize;
     let e = bytes[t + 6] as usize;
     let counts = keeps::counts_right(r, e);
@@ -106,16 +112,19 @@ pub fn read(bytes: &[u8]) -> Reading
         };
         runs[k] = y;
     }
-    let fields = Fields {
-        r,
-        e,
-        runs,
-        entries,
+    let reading = Reading {
+        refusal: 0,
+        fields: Fields {
+            r,
+            e,
+            runs,
+            entries,
+        },
     };
-    if !keeps::keeps_rules(&fields) {
+    if !keeps::keeps_rules(&reading.fields) {
         return refused();
     }
-    Reading { refusal: 0, fields }
+    reading
 }
 
 // The trailer, at the end of what is written.

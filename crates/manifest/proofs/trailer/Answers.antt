@@ -1,12 +1,10 @@
-use Prim.Native.Nat.{ℕ, ◌+◌, ◌-◌}
+use Prim.Native.Nat.{ℕ}
 use native.Mathlib.Omega.{arith}
-use mathlib.Core.Path.{refl, ap, ◌∙◌}
+use mathlib.Core.Path.{refl, sym, ap, ◌∙◌}
 use mathlib.Core.List.{List}
-use lib.ListN.{take, drop}
-use Rattle.lists.proofs.Parts.{part_lent}
 use Rattle.manifest.specs.Layout.{fixed}
 use Rattle.manifest.specs.Reader.{trailer_at, equal}
-use Rattle.manifest.proofs.Equal.{pointwise_equal}
+use Rattle.manifest.proofs.Equal.{five_bytes}
 use Rattle.manifest.proofs.Steps.{trailer_test, trailer_is, trailer_bad, trailer_short}
 use Rattle.manifest.proofs.trailer.Goals as goal
 
@@ -19,7 +17,7 @@ returns-then-fixed-counts c =
     let t = trailer_at l in
     trailer_is l _ _ _ (omega arith) refl refl
     (trailer_test l t _ _ c.eq-fixed.result c.counts_right-counts.result c.u32_at-runs.result c.u32_at-entries.result
-    (c.eq-fixed.ensures ∙ pointwise_equal (take (t + 5 - t) (drop t l)) fixed ∙ ap (λ (z : List ℕ). equal z fixed) (part_lent l t (t + 5) 5 refl)) c.counts_right-counts.ensures c.u32_at-runs.ensures c.u32_at-entries.ensures)
+    (c.eq-fixed.ensures ∙ ap (λ (z : List ℕ). equal z fixed) (sym (five_bytes l t (omega arith)))) c.counts_right-counts.ensures c.u32_at-runs.ensures c.u32_at-entries.ensures)
     c.if-fixed-counts.true
 
 pub returns-else-fixed-counts : goal.returns-else-fixed-counts
@@ -28,5 +26,5 @@ returns-else-fixed-counts c =
     let t = trailer_at l in
     trailer_bad l _ _ _ refl refl
     (trailer_test l t _ _ c.eq-fixed.result c.counts_right-counts.result c.u32_at-runs.result c.u32_at-entries.result
-    (c.eq-fixed.ensures ∙ pointwise_equal (take (t + 5 - t) (drop t l)) fixed ∙ ap (λ (z : List ℕ). equal z fixed) (part_lent l t (t + 5) 5 refl)) c.counts_right-counts.ensures c.u32_at-runs.ensures c.u32_at-entries.ensures)
+    (c.eq-fixed.ensures ∙ ap (λ (z : List ℕ). equal z fixed) (sym (five_bytes l t (omega arith)))) c.counts_right-counts.ensures c.u32_at-runs.ensures c.u32_at-entries.ensures)
     c.if-fixed-counts.false
