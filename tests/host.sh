@@ -49,4 +49,4 @@ build moves "$gcc" -O2 -fsanitize="$sanitizers" -fno-sanitize-recover=all
 echo "host: $($run "$room/moves")"
 
 build stack "$gcc" -O2 -Wl,-z,now # so that the first call of a C function does not count what the loader takes to find it
-$run "$room/stack" 12288 # bytes; what makes it so deep stands in docs/HOST.md
+$run "$room/stack" 6264 # bytes; what an event takes stands in docs/HOST.md

@@ -2,10 +2,13 @@
 // C owes (host/monitor.h).
 #![tactic(auto)]
 
-ghost use Rattle.std.specs.Prelude.{◌≡◌};
+ghost use Rattle.std.specs.Prelude.{◌≡◌, ◌<◌};
+ghost use Rattle.geometry.specs.Geometry.{slot_count};
+ghost use Rattle.painting.specs.Painting.{RunsFit};
+ghost use Rattle.change.specs.Parts.{Seats};
 ghost use Rattle.wellformed.specs.Seen.{seen_of};
 ghost use Rattle.twin.specs.Twin.{opened_of};
-ghost use Rattle.host.specs.Host.{Comes, heard_of, none_heard, hosted, host_step, host_looks, host_looked};
+ghost use Rattle.host.specs.Host.{Comes, heard_of, none_heard, hosted, host_step, host_looks, host_looked, seat_in, filled};
 ghost use Rattle.host.specs.Promise.{RefusalsKeepAll};
 
 use change::{Change, Turn};
@@ -89,6 +92,16 @@ fn hear(
     parts(decide::decided(e, x, payload, State::from(m), memory, buffer))
 }
 
+// What the turn makes of slot k, and of its pages' owners, is stored where it stands. A function of its own, so that an event that fills no slot pays for no seat.
+fn seats(m: &mut Monitor, k: usize, turn: Turn)
+    requires { (k < slot_count) × (Seats turn × RunsFit (seat_in m.now turn k).fields) }
+    ensures { m.new ≡ filled m.old k (seat_in m.old turn k) }
+{
+    let seat = change::seating(m.slots[k], turn);
+    m.slots[k] = seat.slot;
+    painting::paint_runs(&mut m.owner, &seat.fields, seat.owner);
+}
+
 // One event, on the lent state: each part that the event changes is stored where it stands.
 pub fn monitor_event(
     m: &mut Monitor,
@@ -107,9 +120,7 @@ pub fn monitor_event(
         m.running = steer.running;
     }
     if let Some(k) = change::placing(h.turn) {
-        let seat = change::seating(m.slots[k], h.turn);
-        m.slots[k] = seat.slot;
-        painting::paint_runs(&mut m.owner, &seat.fields, seat.owner);
+        seats(m, k, h.turn);
     }
     h.reply
 }

@@ -107,7 +107,8 @@ fn compared(state: &Parts, t: &[u8; Geometry::MOST_PAGES]) -> bool
     same & right
 }
 
-// What is seen of a state that is well formed; of another nothing is told.
+// What is seen of a state that is well formed; of another nothing is told. Always inlined, so that its table takes no stack under what the caller does next.
+#[inline(always)]
 pub fn seen_in(state: &Parts, n: usize, page: usize, other: usize) -> Option<Sight>
     ensures { result ≡ seen_of (state_in state.now) n page other }
 {
@@ -124,24 +125,30 @@ pub fn seen_in(state: &Parts, n: usize, page: usize, other: usize) -> Option<Sig
     None
 }
 
-pub fn seen(s: State, n: usize, page: usize, other: usize) -> Option<Sight>
-    ensures { result ≡ seen_of s n page other }
+// A state's parts.
+fn parts_of(s: &State) -> Parts
+    ensures { state_in result ≡ s.now }
 {
-    let parts = Parts {
+    Parts {
         pages: s.pages,
         kept: s.kept,
         owner: &s.owner,
         slots: &s.slots,
         mode: s.mode,
         running: s.running,
-    };
-    seen_in(&parts, n, page, other)
+    }
+}
+
+pub fn seen(s: State, n: usize, page: usize, other: usize) -> Option<Sight>
+    ensures { result ≡ seen_of s n page other }
+{
+    seen_in(&parts_of(&s), n, page, other)
 }
 
 pub fn state_right(s: State) -> bool
     ensures { result ≡ state_right s }
 {
-    seen(s, 0, 0, 0).is_some()
+    seen_in(&parts_of(&s), 0, 0, 0).is_some()
 }
 
 pub fn well_formed(s: State, length: usize) -> bool
