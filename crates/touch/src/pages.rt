@@ -47,7 +47,7 @@ pub fn may_reach(s: State, slot: Slot, v: u8, access: Access, page: usize) -> bo
 {
     match (access, s.mode) {
         (Access::Read, Mode::Secure(k)) => is_own(v, k),
-        (Access::Write, Mode::Secure(k)) => is_own(v, k) && !in_code_of(slot, page),
+        (Access::Write, Mode::Secure(k)) => is_own(v, k) & !in_code_of(slot, page),
         (_, Mode::Legacy) | (Access::Device, _) => is_open(s.pages, v, page),
     }
 }
